@@ -1,0 +1,14 @@
+-- `bits::single` meets its contract. Assumes nothing.
+use Rattle.bits.specs.Bit.{one-shl}
+use borrow.Author.Needs.{needs}
+use Rattle.bits.proofs.sets.single.Statement.{statement}
+use Rattle.bits.proofs.sets.single.Tie as tie
+
+shl-result : tie.Need-shl-result
+shl-result c = search needs
+
+returns : tie.Need-returns
+returns c = one-shl 32 (c .args .v) (c .pre)
+
+pub single-spec : {M : Type 1} → statement M
+single-spec = tie.close (tie.spec shl-result returns)
