@@ -1,0 +1,16 @@
+pub mod Small
+pub mod Changes
+pub mod LogLaws
+pub mod VersionLaws
+pub mod PlainLaws
+pub mod ListLaws
+pub mod Wishes
+pub mod Logged
+pub mod Agrees
+pub mod Core
+pub mod Committing
+pub mod Tidying
+pub mod Start
+pub mod Run
+pub mod Answers
+pub mod EveryRun

@@ -1,0 +1,62 @@
+-- Small laws on tests, on answers that may be missing, and on lists with one more at the end.
+-- Assumes nothing.
+use mathlib.Core.Path.{_≡_, refl, sym, _∙_}
+use mathlib.Core.Bool.{Bool, true, false, _||_, true≢false}
+use mathlib.Core.Option.{Option, none, some}
+use mathlib.Core.List.{List, [], _∷_, _++_}
+use mathlib.Core.Logic.{_⊎_, inl, inr}
+use Prim.Native.Nat.{ℕ, suc, _≤_}
+use native.Mathlib.Omega.{arith}
+use native.Mathlib.Numerals.{add-one}
+use lib.ListN.{length, take, drop, length-append}
+use lib.Seq.{take-length, drop-length}
+use Rattle.bits.specs.Cases.{eq-cases}
+use Rattle.bits.specs.Bit.{xorb}
+use Rattle.bits.specs.Choice.{orElse}
+
+-- ---- tests
+
+pub clash : {b : Bool} → b ≡ true → b ≡ false → ⊥
+clash p q = true≢false (sym p ∙ q)
+
+pub or-parts : (a b : Bool) → (a || b) ≡ false → (a ≡ false) × (b ≡ false)
+or-parts true b e = absurd (true≢false e)
+or-parts false b e = (refl, e)
+
+pub xorb-false : (b : Bool) → xorb b false ≡ b
+xorb-false true = refl
+xorb-false false = refl
+
+-- turned twice is not turned
+pub turn-none : (b c : Bool) → b ≡ xorb b (xorb c c)
+turn-none b true = sym (xorb-false b)
+turn-none b false = sym (xorb-false b)
+
+-- ---- answers that may be missing
+
+pub option-cases : {A : Type 0} (o : Option A) → (o ≡ none) ⊎ ((a : A) × (o ≡ some a))
+option-cases none = inl refl
+option-cases (some a) = inr (a, refl)
+
+pub orElse-assoc : {A : Type 0} (a b c : Option A) → orElse (orElse a b) c ≡ orElse a (orElse b c)
+orElse-assoc none b c = refl
+orElse-assoc (some x) b c = refl
+
+-- ---- lists
+
+pub length-snoc : {A : Type 0} (l : List A) (x : A) → length (l ++ (x ∷ [])) ≡ suc (length l)
+length-snoc l x = rw length-append (add-one (length l))
+
+pub take-snoc : {A : Type 0} (l : List A) (x : A) → take (suc (length l)) (l ++ (x ∷ [])) ≡ l ++ (x ∷ [])
+take-snoc l x = rw (← (length-snoc l x)) (take-length (l ++ (x ∷ [])))
+
+pub drop-snoc : {A : Type 0} (l : List A) (x : A) → drop (suc (length l)) (l ++ (x ∷ [])) ≡ []
+drop-snoc l x = rw (← (length-snoc l x)) (drop-length (l ++ (x ∷ [])))
+
+-- what holds at every k up to n, and at n + 1, holds at every k up to n + 1
+pub up-to-next : {n m : ℕ} (P : ℕ → Type 0) → ((k : ℕ) → k ≤ n → P k) → P (suc n) → m ≡ suc n → (k : ℕ) → k ≤ m → P k
+up-to-next {n} P old new q k l = go (eq-cases k (suc n))
+  where
+    go : (k ≡ suc n) ⊎ (k ≡ suc n → ⊥) → P k
+    go (inl e) = rw e new
+    go (inr d) = old k (omega arith)

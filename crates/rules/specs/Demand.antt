@@ -1,0 +1,93 @@
+-- What demand 3 claims of a call and its answer, in the plain observer's words, before the observer takes note of them.
+-- Assumes nothing.
+use mathlib.Core.Path.{_≡_}
+use mathlib.Core.Bool.{Bool, true, false}
+use mathlib.Core.Option.{Option, none, some}
+use mathlib.Core.List.{List, [], _∷_, List·Memᴰ}
+use mathlib.Core.Logic.{_↔_}
+use Prim.Native.Nat.{ℕ, suc, _<_}
+use lib.Dec.{ltb}
+use lib.ListN.{length, drop}
+use Rattle.bits.specs.Rows.{Ascending}
+use Rattle.rules.specs.Calls.{Column, cell, Call, create, begin, query, read, update, delete, insert, commit, tidy, abort, Answer, refused, ok, value, listed}
+use Rattle.rules.specs.Plain.{Wish, Event, Seat, away, sitting, Observer, seat, columnAt, columnNow, holding, wishes, wishesOf, wished, touches, movedBy, accepts, watches}
+
+-- a call that answers numbers only: where it is accepted, they are these
+abbrev pub Numbers : List ℕ → Answer → Type 0
+Numbers ns (refused n) = Unit {0}
+Numbers ns (ok ms) = ms ≡ ns
+Numbers ns (value x) = ⊥
+Numbers ns (listed n d rs) = ⊥
+
+-- an accepted query of v, its session open since k events: exactly the rows that hold v after replaying the commits among these
+-- events, as a list, row by row and ascending; the flip count is how many rows came to v or left it since its last tidy
+pub record Lists (o : Observer) (i v t n : ℕ) (d : Bool) (rs : List ℕ) : Type 0 where
+  pub since : ℕ
+  pub own : List Wish
+  pub is-open : seat o i ≡ sitting since own
+  pub rows-are : rs ≡ holding (columnAt o since) v
+  pub exactly : (r : ℕ) → List·Memᴰ r rs ↔ (cell (columnAt o since) r ≡ some v)
+  pub ascending : Ascending rs
+  pub flips-are : n ≡ length (movedBy o since v)
+  pub due-is : d ≡ ltb t n
+
+abbrev pub RightQuery : Observer → ℕ → ℕ → ℕ → Answer → Type 0
+RightQuery o i v t (refused n) = Unit {0}
+RightQuery o i v t (ok ns) = ⊥
+RightQuery o i v t (value x) = ⊥
+RightQuery o i v t (listed n d rs) = Lists o i v t n d rs
+
+-- an accepted read of a row: that column's cell
+pub record Reads (o : Observer) (i r : ℕ) (x : Option ℕ) : Type 0 where
+  pub since : ℕ
+  pub own : List Wish
+  pub is-open : seat o i ≡ sitting since own
+  pub in-column : r < length (columnAt o since)
+  pub cell-is : x ≡ cell (columnAt o since) r
+
+abbrev pub RightRead : Observer → ℕ → ℕ → Answer → Type 0
+RightRead o i r (refused n) = Unit {0}
+RightRead o i r (ok ns) = ⊥
+RightRead o i r (value x) = Reads o i r x
+RightRead o i r (listed n d rs) = ⊥
+
+-- begin: the events so far and the length of the column now, or, where the session is open, those of its opening
+abbrev pub beginsAt : Observer → Seat → List ℕ
+beginsAt o away = length (o .events) ∷ length (columnNow o) ∷ []
+beginsAt o (sitting k ws) = k ∷ length (columnAt o k) ∷ []
+
+-- update, delete, insert: how many rows the session wishes for then
+abbrev pub listsThen : Observer → ℕ → Call → List ℕ
+listsThen o i c = wishes (wishesOf (seat (accepts o c) i)) ∷ []
+
+-- a row that one of the wishes is for and that one of the events touches
+abbrev pub Overtaken : List Event → List Wish → Type 0
+Overtaken h ws = (r : ℕ) × (e : Event) × (wished ws r ≡ true) × List·Memᴰ e h × (touches e r ≡ true)
+
+-- commit: one more than the events so far, and the length of the column then; "A commit with something listed is refused for
+-- conflict exactly if, since the opening, an accepted commit listed or an accepted tidy moved one of its rows."
+pub record RightCommit (o : Observer) (i : ℕ) (a : Answer) : Type 0 where
+  pub numbers : Numbers (suc (length (o .events)) ∷ length (columnNow (accepts o (commit i))) ∷ []) a
+  pub conflict : (k : ℕ) (w : Wish) (ws : List Wish) → seat o i ≡ sitting k (w ∷ ws) → (a ≡ refused 12) ↔ Overtaken (drop k (o .events)) (w ∷ ws)
+
+-- tidy: one more than the events so far, and how many rows it moves
+abbrev pub tidiesAt : Observer → ℕ → Seat → List ℕ
+tidiesAt o v away = []
+tidiesAt o v (sitting k ws) = suc (length (o .events)) ∷ length (movedBy o k v) ∷ []
+
+abbrev pub Right : Observer → Call → Answer → Type 0
+Right o (create C col) a = Numbers (length col ∷ []) a
+Right o (begin i) a = Numbers (beginsAt o (seat o i)) a
+Right o (query i v t n) a = RightQuery o i v t a
+Right o (read i r) a = RightRead o i r a
+Right o (update i r v) a = Numbers (listsThen o i (update i r v)) a
+Right o (delete i r) a = Numbers (listsThen o i (delete i r)) a
+Right o (insert i v) a = Numbers (listsThen o i (insert i v)) a
+Right o (commit i) a = RightCommit o i a
+Right o (tidy i v) a = Numbers (tidiesAt o v (seat o i)) a
+Right o (abort i) a = Numbers (wishes (wishesOf (seat o i)) ∷ []) a
+
+-- each call of a transcript is right, the observer standing where it stands before the call
+abbrev pub AllRight : Observer → List (Call × Answer) → Type 0
+AllRight o [] = Unit {0}
+AllRight o (p ∷ ps) = Right o (p .0) (p .1) × AllRight (watches o (p .0) (p .1)) ps

@@ -1,0 +1,14 @@
+pub mod Limits
+pub mod State
+pub mod Log
+pub mod Versions
+pub mod Lists
+pub mod Commit
+pub mod Tidy
+pub mod Calls
+pub mod Refusals
+pub mod Step
+pub mod Damage
+pub mod Plain
+pub mod Demand
+pub mod Examples

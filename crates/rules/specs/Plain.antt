@@ -1,0 +1,160 @@
+-- The plain observer of demand 3. It sees the calls and their answers, and nothing else: it has no log, no flip set, no
+-- version and no list, and shares no function on lists with the rules. Assumes nothing.
+use mathlib.Core.Bool.{Bool, true, false, _||_, cond}
+use mathlib.Core.Option.{Option, none, some}
+use mathlib.Core.List.{List, [], _∷_, _++_}
+use Prim.Native.Nat.{ℕ, suc, _+_}
+use lib.Dec.{eqb}
+use lib.ListN.{length, getD, set, take, drop, replicate}
+use Rattle.bits.specs.Bit.{xorb}
+use Rattle.bits.specs.Rows.{rowsBelow}
+use Rattle.rules.specs.Calls.{Column, cell, holds, Call, create, begin, query, read, update, delete, insert, commit, tidy, abort, Answer, refused, ok, value, listed}
+
+-- what a session asked for: that a row hold a value or be absent, or that a new row hold a value
+pub data Wish : Type 0 where
+  hold : ℕ → Option ℕ → Wish
+  grow : ℕ → Wish
+
+-- a column with some wishes met in turn, so that the last one for a row decides; the new rows come after
+abbrev pub rewritten : Column → List Wish → Column
+rewritten col [] = col
+rewritten col (hold r t ∷ ws) = rewritten (set col r t) ws
+rewritten col (grow v ∷ ws) = rewritten col ws
+
+abbrev pub newRows : List Wish → Column
+newRows [] = []
+newRows (hold r t ∷ ws) = newRows ws
+newRows (grow v ∷ ws) = some v ∷ newRows ws
+
+abbrev pub met : Column → List Wish → Column
+met col ws = rewritten col ws ++ newRows ws
+
+-- whether a wish is for row r
+abbrev pub wished : List Wish → ℕ → Bool
+wished [] r = false
+wished (hold q t ∷ ws) r = eqb q r || wished ws r
+wished (grow v ∷ ws) r = wished ws r
+
+-- how many rows are wished for, each counted once, the new ones too
+abbrev pub wishes : List Wish → ℕ
+wishes [] = 0
+wishes (hold r t ∷ ws) = cond (wished ws r) 0 1 + wishes ws
+wishes (grow v ∷ ws) = 1 + wishes ws
+
+-- what was accepted: a commit of some wishes, or a tidy of a value with the rows that it moved
+pub data Event : Type 0 where
+  committed : List Wish → Event
+  tidied : ℕ → List ℕ → Event
+
+-- "replaying, on the plain first column and in stamp order, the commits": a tidy shows nothing
+abbrev pub replay : Column → List Event → Column
+replay col [] = col
+replay col (committed ws ∷ h) = replay (met col ws) h
+replay col (tidied v rs ∷ h) = replay col h
+
+-- a session as the observer sees it: away, or sitting since so many events, with its wishes as they came
+pub data Seat : Type 0 where
+  away : Seat
+  sitting : ℕ → List Wish → Seat
+
+abbrev pub wishesOf : Seat → List Wish
+wishesOf away = []
+wishesOf (sitting k ws) = ws
+
+pub record Observer : Type 0 where
+  pub column : Column
+  pub events : List Event
+  pub seats : List Seat
+
+abbrev pub seat : Observer → ℕ → Seat
+seat o i = getD (o .seats) i away
+
+-- the column after the commits among the first k events, and after all of them
+abbrev pub columnAt : Observer → ℕ → Column
+columnAt o k = replay (o .column) (take k (o .events))
+
+abbrev pub columnNow : Observer → Column
+columnNow o = replay (o .column) (o .events)
+
+-- the rows of a column that hold the value v, ascending
+abbrev pub holding : Column → ℕ → List ℕ
+holding col v = rowsBelow (λ r. holds (cell col r) v) (length col)
+
+-- how many of some events there are up to the last tidy of v (0: none)
+abbrev pub tidies : ℕ → Event → Bool
+tidies v (committed ws) = false
+tidies v (tidied w rs) = eqb w v
+
+abbrev pub lastFrom : ℕ → ℕ → ℕ → List Event → ℕ
+lastFrom v n found [] = found
+lastFrom v n found (e ∷ h) = lastFrom v (suc n) (cond (tidies v e) (suc n) found) h
+
+abbrev pub lastTidy : ℕ → List Event → ℕ
+lastTidy v h = lastFrom v 0 0 h
+
+-- the rows that hold v in one of two columns only
+abbrev pub changedRows : Column → Column → ℕ → List ℕ
+changedRows old new v = rowsBelow (λ r. xorb (holds (cell old r) v) (holds (cell new r) v)) (length new)
+
+-- what a tidy of v moves, by a session that sits since k events: the rows that came to v or left it between the last tidy of v
+-- (or the first column) and the opening
+abbrev pub movedBy : Observer → ℕ → ℕ → List ℕ
+movedBy o k v = changedRows (columnAt o (lastTidy v (take k (o .events)))) (columnAt o k) v
+
+-- since an opening, an accepted commit listed or an accepted tidy moved row r
+abbrev pub inRows : List ℕ → ℕ → Bool
+inRows [] r = false
+inRows (q ∷ rs) r = eqb q r || inRows rs r
+
+abbrev pub touches : Event → ℕ → Bool
+touches (committed ws) r = wished ws r
+touches (tidied v rs) r = inRows rs r
+
+-- what the observer notes of an accepted call
+abbrev pub sits : Observer → ℕ → Seat → Observer
+sits o i x = record { column = o .column; events = o .events; seats = set (o .seats) i x }
+
+abbrev pub sitsDown : Observer → ℕ → Seat → Observer
+sitsDown o i away = sits o i (sitting (length (o .events)) [])
+sitsDown o i (sitting k ws) = o
+
+abbrev pub wishing : Observer → ℕ → Wish → Seat → Observer
+wishing o i w away = o
+wishing o i w (sitting k ws) = sits o i (sitting k (ws ++ (w ∷ [])))
+
+abbrev pub commitsNow : Observer → ℕ → Seat → Observer
+commitsNow o i away = o
+commitsNow o i (sitting k ws) =
+    record { column = o .column; events = o .events ++ (committed ws ∷ []); seats = set (o .seats) i away }
+
+abbrev pub tidiesNow : Observer → ℕ → Seat → Observer
+tidiesNow o v away = o
+tidiesNow o v (sitting k ws) =
+    record { column = o .column; events = o .events ++ (tidied v (movedBy o k v) ∷ []); seats = o .seats }
+
+unfoldable pub started : Column → Observer
+started col = record { column = col; events = []; seats = replicate 16 away }
+
+unfoldable pub accepts : Observer → Call → Observer
+accepts o (create C col) = started col
+accepts o (begin i) = sitsDown o i (seat o i)
+accepts o (query i v t n) = o
+accepts o (read i r) = o
+accepts o (update i r v) = wishing o i (hold r (some v)) (seat o i)
+accepts o (delete i r) = wishing o i (hold r none) (seat o i)
+accepts o (insert i v) = wishing o i (grow v) (seat o i)
+accepts o (commit i) = commitsNow o i (seat o i)
+accepts o (tidy i v) = tidiesNow o v (seat o i)
+accepts o (abort i) = sits o i away
+
+-- a refused call is no call
+unfoldable pub watches : Observer → Call → Answer → Observer
+watches o c (refused n) = o
+watches o c (ok ns) = accepts o c
+watches o c (value v) = accepts o c
+watches o c (listed n d rs) = accepts o c
+
+-- the observer after a transcript
+unfoldable pub observes : Observer → List (Call × Answer) → Observer
+observes o [] = o
+observes o (p ∷ ps) = observes (watches o (p .0) (p .1)) ps
