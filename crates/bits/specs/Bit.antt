@@ -2,10 +2,10 @@
 -- Assumes nothing.
 use mathlib.Core.Path.{_≡_, refl, sym, ap, ap₂, _∙_, subst}
 use mathlib.Core.Bool.{Bool, true, false, not, _&&_, _||_, or-comm, true≢false}
-use Prim.Native.Nat.{ℕ, zero, suc, _+_, _-_, _*_, _/_, _%_, _^_, _≤_, _<_}
-use native.Mathlib.Nat.{div-one, div-div-eq-div-mul, pow-succ', mod-lt, one-mul, not-suc-le-zero, le-of-suc-le-suc, lt-of-lt-of-le, div-eq-of-lt, zero-div, zero-lt-suc, pow-suc, mul-mod-left, mul-div-cancel, le-add-right, div-lt-iff-lt-mul, lt-of-le-of-lt}
+use Prim.Native.Nat.{ℕ, zero, suc, _+_, _*_, _/_, _%_, _^_, _≤_, _<_}
+use native.Mathlib.Nat.{div-one, div-div-eq-div-mul, pow-succ', mod-lt, one-mul, lt-of-lt-of-le, div-eq-of-lt, zero-div, zero-lt-suc, pow-suc, mul-mod-left, mul-div-cancel, le-add-right, div-lt-iff-lt-mul, lt-of-le-of-lt}
 use native.Mathlib.Omega.{arith}
-use lib.Dec.{lit<, eqb, ltb, eqb·zero-suc, eqb·suc-zero, eqb·suc-suc}
+use lib.Dec.{lit<, eqb, eqb·zero-suc, eqb·suc-zero, eqb·suc-suc}
 use lib.Arith.{lt-one}
 use lib.Pow.{pow-pos, pow-mono, pow-lt, shl-exact, shr-shr, shr-le}
 use lib.Bits.{bitOr, bitXor, or-shr, xor-shr, or-mod, xor-mod, xor-lt, or-lt, xor-zero-l}

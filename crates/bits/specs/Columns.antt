@@ -1,21 +1,20 @@
 -- One pass over a column that sets each row in its value's vector, and what the vectors are then.
 -- Assumes nothing.
-use mathlib.Core.Path.{_≡_, refl, sym, ap, ap₂, _∙_, subst}
-use mathlib.Core.Bool.{Bool, true, false, cond, _&&_, _||_, or-false}
+use mathlib.Core.Path.{_≡_, refl, sym, ap, ap₂, _∙_}
+use mathlib.Core.Bool.{Bool, true, false, cond, _&&_, _||_, or-false, and-false, and-eq-true-iff}
 use mathlib.Core.List.{List}
 use mathlib.Core.Logic.{_⊎_, inl, inr, ⊎-elim}
 use Prim.Native.Nat.{ℕ, _+_, _*_, _/_, _%_, _≤_, _<_, zero-le}
 use native.Mathlib.Omega.{arith}
-use borrow.Author.Tests.{eq-eqb, ne-eqb, eqb-true, ltb-true, ltb-false, lt-ltb, le-ltb}
+use borrow.Author.Tests.{eq-eqb, ne-eqb, eqb-true, ltb-true, lt-ltb, le-ltb}
 use lib.Dec.{eqb, ltb}
 use lib.ListN.{length, getD, set, length-set}
 use lib.Seq.{set-getD}
 use Rattle.bits.specs.Cases.{lt-cases, eq-cases, bool-cases, same-truth}
-use Rattle.bits.specs.All.{and-both, and-left, and-right}
 use Rattle.bits.specs.Bit.{setBit}
 use Rattle.bits.specs.Tab.{getD-any}
 use Rattle.bits.specs.Words.{bitAt, Words, putAt}
-use Rattle.bits.specs.Vec.{vec, vec-ext, vec-bits, length-vec}
+use Rattle.bits.specs.Vec.{vec, vec-ext, vec-bits}
 use Rattle.bits.specs.VecOps.{put-vec}
 use Rattle.bits.specs.Vectors.{vectorAt, vectorAt-vec, vectorAt-self}
 use Rattle.bits.specs.Column.{holdsAt, holds-past, columnBit}
@@ -36,21 +35,17 @@ module _ (col : List ℕ) (r : ℕ) (inside : r < length col) (few : length col 
       let b = getD col r 255 in
       let at : getD col (q % 2048) 255 ≡ b = ap (λ (k : ℕ). getD col k 255) e in
       same-truth (ltb (q / 2048) 32 && holdsAt col (q / 2048) (q % 2048)) (rowOf b r q)
-      (λ t. let v : q / 2048 < 32 = ltb-true (q / 2048) 32 (and-left (ltb (q / 2048) 32) (holdsAt col (q / 2048) (q % 2048)) t) in
-      let s : b ≡ q / 2048 = sym at ∙ eqb-true (getD col (q % 2048) 255) (q / 2048) (and-right (ltb (q / 2048) 32) (holdsAt col (q / 2048) (q % 2048)) t) in
-      and-both (ltb b 32) (eqb (2048 * b + r) q) (lt-ltb b 32 (omega arith)) (eq-eqb (2048 * b + r) q (omega arith)))
-      (λ t. let v : b < 32 = ltb-true b 32 (and-left (ltb b 32) (eqb (2048 * b + r) q) t) in
-      let s : 2048 * b + r ≡ q = eqb-true (2048 * b + r) q (and-right (ltb b 32) (eqb (2048 * b + r) q) t) in
+      (λ t. let v : q / 2048 < 32 = ltb-true (q / 2048) 32 (and-eq-true-iff (ltb (q / 2048) 32) (holdsAt col (q / 2048) (q % 2048)) .0 t .0) in
+      let s : b ≡ q / 2048 = sym at ∙ eqb-true (getD col (q % 2048) 255) (q / 2048) (and-eq-true-iff (ltb (q / 2048) 32) (holdsAt col (q / 2048) (q % 2048)) .0 t .1) in
+      and-eq-true-iff (ltb b 32) (eqb (2048 * b + r) q) .1 (lt-ltb b 32 (omega arith), eq-eqb (2048 * b + r) q (omega arith)))
+      (λ t. let v : b < 32 = ltb-true b 32 (and-eq-true-iff (ltb b 32) (eqb (2048 * b + r) q) .0 t .0) in
+      let s : 2048 * b + r ≡ q = eqb-true (2048 * b + r) q (and-eq-true-iff (ltb b 32) (eqb (2048 * b + r) q) .0 t .1) in
       let u : b ≡ q / 2048 = omega arith in
-      and-both (ltb (q / 2048) 32) (holdsAt col (q / 2048) (q % 2048)) (lt-ltb (q / 2048) 32 (omega arith)) (eq-eqb (getD col (q % 2048) 255) (q / 2048) (at ∙ u)))
+      and-eq-true-iff (ltb (q / 2048) 32) (holdsAt col (q / 2048) (q % 2048)) .1 (lt-ltb (q / 2048) 32 (omega arith), eq-eqb (getD col (q % 2048) 255) (q / 2048) (at ∙ u)))
 
   -- another row is not of this one
   no-row : (q : ℕ) → (q % 2048 ≡ r → ⊥) → rowOf (getD col r 255) r q ≡ false
-  no-row q n = ap (λ (t : Bool). ltb (getD col r 255) 32 && t) (ne-eqb (2048 * getD col r 255 + r) q (λ e. n (omega arith))) ∙ and-no (ltb (getD col r 255) 32)
-    where
-      and-no : (t : Bool) → t && false ≡ false
-      and-no true = refl
-      and-no false = refl
+  no-row q n = ap (λ (t : Bool). ltb (getD col r 255) 32 && t) (ne-eqb (2048 * getD col r 255 + r) q (λ e. n (omega arith))) ∙ and-false (ltb (getD col r 255) 32)
 
   -- one row more
   rows-more : (q : ℕ) → rowOf (getD col r 255) r q || firstRows col r q ≡ firstRows col (r + 1) q
@@ -119,7 +114,7 @@ set-where f n i k b r at fits = go (bool-cases (ltb b 32))
     go : (ltb b 32 ≡ true) ⊎ (ltb b 32 ≡ false) → whole (ltb b 32) ≡ vec (λ q. rowOf b r q || f q) n
     go (inl e) =
         let l : b < 32 = ltb-true b 32 e in
-        ap whole e ∙ ap₂ (λ (x y : ℕ). set (vec f n) x (setBit (getD (vec f n) x 0) y)) (at l .0) (at l .1) ∙ put-vec f n (2048 * b + r) true (fits l)
+        ap whole e ∙ ap₂ (λ (x y : ℕ). set (vec f n) x (setBit (getD (vec f n) x 0) y)) (at l .0) (at l .1) ∙ put-vec f n (2048 * b + r) (fits l) true
         ∙ vec-ext (λ q. cond (eqb (2048 * b + r) q) true (f q)) (λ q. rowOf b r q || f q) n
         (λ q m. as-cond (eqb (2048 * b + r) q) (f q) ∙ ap (λ (t : Bool). t && eqb (2048 * b + r) q || f q) (sym e))
     go (inr e) =

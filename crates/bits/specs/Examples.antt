@@ -1,10 +1,11 @@
 -- Closed examples, by computation.
 -- Assumes nothing.
 use mathlib.Core.Path.{_≡_, refl}
-use mathlib.Core.Bool.{Bool, true, false}
-use mathlib.Core.List.{List, [], _∷_, _++_}
+use mathlib.Core.Bool.{true, false}
+use mathlib.Core.List.{List, [], _∷_}
+use mathlib.Core.Option.{none, some}
 use Prim.Native.Nat.{ℕ}
-use lib.ListN.{length, replicate}
+use lib.ListN.{getD, replicate}
 use Rattle.bits.specs.Bit.{bit, flipBit, setBit, clearBit}
 use Rattle.bits.specs.Words.{bitAt}
 use Rattle.bits.specs.Tab.{tab}
@@ -12,7 +13,7 @@ use Rattle.bits.specs.Vec.{vec, packBits}
 use Rattle.bits.specs.Column.{holdsAt}
 use Rattle.bits.specs.All.{allBelow}
 use Rattle.bits.specs.Tail.{tailClear}
-use Rattle.bits.specs.Rows.{rowsOf, rowsBelow, countBelow, countOf}
+use Rattle.bits.specs.Rows.{rowsOf, rowsBelow, smallestBelow}
 
 -- record 1 of the run: row 0 with {1, 3}; the tidy leaves {1}
 toggles : flipBit (flipBit 0 1) 3 ≡ 10
@@ -24,7 +25,7 @@ unfolding clearBit
 tidied = refl
 
 -- row 2,047 is bit 63 of word 31
-last-row : (ws : List ℕ) → bitAt ws 2047 ≡ bit (lib.ListN.getD ws 31 0) 63
+pub last-row : (ws : List ℕ) → bitAt ws 2047 ≡ bit (getD ws 31 0) 63
 unfolding bitAt
 last-row ws = refl
 
@@ -41,6 +42,20 @@ column-rows : rowsOf (vec (holdsAt (1 ∷ 2 ∷ 0 ∷ 1 ∷ []) 1) 32) ≡ 0 ∷
 unfolding vec tab packBits setBit rowsOf rowsBelow bitAt bit
 column-rows = refl
 
+-- read back, row 1 holds 2 and row 4 is absent
+present : smallestBelow (λ v. bitAt (vec (holdsAt (1 ∷ 2 ∷ 0 ∷ 1 ∷ []) v) 1) 1) 4 ≡ some 2
+unfolding smallestBelow vec tab packBits setBit bitAt bit
+present = refl
+
+absent : smallestBelow (λ v. bitAt (vec (holdsAt (1 ∷ 2 ∷ 0 ∷ 1 ∷ []) v) 1) 4) 4 ≡ none
+unfolding smallestBelow vec tab packBits setBit bitAt bit
+absent = refl
+
+-- no row from 4 on is set in that vector, and row 3 is
 tail : tailClear (9 ∷ replicate 31 0) 4 ≡ true
 unfolding tailClear allBelow bitAt bit
 tail = refl
+
+no-tail : tailClear (9 ∷ replicate 31 0) 3 ≡ false
+unfolding tailClear allBelow bitAt bit
+no-tail = refl

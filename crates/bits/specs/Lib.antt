@@ -1,6 +1,10 @@
+-- The vocabulary of bits: numbers by their bits, vectors by their rows, columns by their vectors.
+-- Assumes nothing.
+
 pub mod Cases
 pub mod Choice
 pub mod All
+pub mod OrWords
 pub mod Bit
 pub mod Sets
 pub mod Tab

@@ -1,18 +1,17 @@
 -- The numbers below n that have f: how many they are, their list, ascending, and the smallest. The set rows of a vector are those of its bits.
 -- Assumes nothing.
 use mathlib.Core.Path.{_≡_, refl, sym, ap, ap₂, _∙_, subst}
-use mathlib.Core.Bool.{Bool, true, false, not, cond, true≢false}
-use mathlib.Core.List.{List, [], _∷_, _++_, append-nil, List·Memᴰ, List·Memᴰ·head, List·Memᴰ·tail, List·Memᴰ·not-nil, List·Memᴰ·append-cases, List·Memᴰ·eq-of-singleton, Memᴰ·append-left, Memᴰ·append-right, Memᴰ·cast}
+use mathlib.Core.Bool.{Bool, true, false, cond}
+use mathlib.Core.List.{List, [], _∷_, _++_, append-nil, List·Memᴰ, List·Memᴰ·head, List·Memᴰ·tail, List·Memᴰ·not-nil, List·Memᴰ·append-cases, List·Memᴰ·eq-of-singleton, Memᴰ·append-left, Memᴰ·append-right}
 use mathlib.Core.Option.{Option, none, some, Option·none-ne-some, Option·some-ne-none, Option·some-injective}
-use mathlib.Core.Logic.{_⊎_, inl, inr, ⊎-elim, _↔_}
+use mathlib.Core.Logic.{⊎-elim, _↔_}
 use Prim.Native.Nat.{ℕ, zero, suc, _+_, _-_, _*_, _/_, _%_, _^_, _≤_, _<_, zero-le}
 use native.Mathlib.Omega.{arith}
 use native.Mathlib.Numerals.{add-one, one-add}
 use native.Mathlib.Nat.{not-suc-le-zero, eq-or-lt-of-le, le-of-suc-le-suc, lt-suc-self, add-zero, add-suc, add-assoc, zero-add, mod-lt, zero-lt-suc, div-lt-iff-lt-mul, pow-suc, le-add-right}
 use lib.Dec.{eqb}
 use lib.Arith.{lt-one}
-use lib.Count.{ones, ones-step, trailingZeros, under}
-use lib.Pow.{shr-le}
+use lib.Count.{ones, ones-step}
 use lib.ListN.{length, getD, length-append, List·getD-append}
 use lib.Seq.{getD-append-seam}
 use Rattle.bits.specs.Cases.{lt-cases}
@@ -57,6 +56,23 @@ module _ (f : ℕ → Bool) where
   unfolding countBelow
   count-le zero = zero-le
   count-le (suc n) = omega (arith, count-le n, at-most-one (f n))
+
+  -- none is counted exactly if none has f
+  pub count-none : (n : ℕ) → (countBelow f n ≡ 0) ↔ ((k : ℕ) → k < n → f k ≡ false)
+  unfolding countBelow
+  count-none n = (none n, no n)
+    where
+      one : (t : Bool) → _≡_ {A = ℕ} (cond t 1 0) 0 → t ≡ false
+      one true e = absurd (omega arith)
+      one false e = refl
+
+      none : (n : ℕ) → countBelow f n ≡ 0 → (k : ℕ) → k < n → f k ≡ false
+      none zero e k h = absurd (not-suc-le-zero h)
+      none (suc n) e k h = ⊎-elim (λ (s : k ≡ n). ap f s ∙ one (f n) (omega arith)) (λ (l : k < n). none n (omega arith) k l) (eq-or-lt-of-le (le-of-suc-le-suc h))
+
+      no : (n : ℕ) → ((k : ℕ) → k < n → f k ≡ false) → countBelow f n ≡ 0
+      no zero h = refl
+      no (suc n) h = ap₂ (λ (x : ℕ) (t : Bool). x + cond t 1 0) (no n (λ k l. h k (omega arith))) (h n (lt-suc-self n))
 
   -- one more row, that has f or has not
   pub rows-take : (n : ℕ) → f n ≡ true → rowsBelow f (n + 1) ≡ rowsBelow f n ++ (n ∷ [])
@@ -140,9 +156,9 @@ count-word ws i h =
 unfoldable pub Ascending : List ℕ → Type 0
 Ascending l = (i j : ℕ) → i < j → j < length l → getD l i 0 < getD l j 0
 
--- what is at an index of the list is below n
-rows-lt : (f : ℕ → Bool) (n i : ℕ) → i < length (rowsBelow f n) → getD (rowsBelow f n) i 0 < n
-rows-lt f n i h = rows-mem f n (getD (rowsBelow f n) i 0) (mem-at (rowsBelow f n) i h) .0
+-- what stands in the list is below n and has f
+pub rows-at : (f : ℕ → Bool) (n i : ℕ) → i < length (rowsBelow f n) → (getD (rowsBelow f n) i 0 < n) × (f (getD (rowsBelow f n) i 0) ≡ true)
+rows-at f n i h = rows-mem f n (getD (rowsBelow f n) i 0) (mem-at (rowsBelow f n) i h)
   where
     mem-at : (l : List ℕ) (i : ℕ) → i < length l → List·Memᴰ (getD l i 0) l
     mem-at [] i h = absurd (not-suc-le-zero h)
@@ -152,7 +168,7 @@ rows-lt f n i h = rows-mem f n (getD (rowsBelow f n) i 0) (mem-at (rowsBelow f n
 pub rows-ascend : (f : ℕ → Bool) (n : ℕ) → Ascending (rowsBelow f n)
 unfolding Ascending rowsBelow
 rows-ascend f zero i j l h = absurd (not-suc-le-zero h)
-rows-ascend f (suc n) i j l h = step (f n) (rowsBelow f n) (rows-ascend f n) (rows-lt f n) i j l h
+rows-ascend f (suc n) i j l h = step (f n) (rowsBelow f n) (rows-ascend f n) (λ k m. rows-at f n k m .0) i j l h
   where
     step : (t : Bool) (xs : List ℕ) → Ascending xs → ((k : ℕ) → k < length xs → getD xs k 0 < n) → Ascending (xs ++ cond t (n ∷ []) [])
     step false xs a b i j l h = subst (λ (t : List ℕ). (i j : ℕ) → i < j → j < length t → getD t i 0 < getD t j 0) (sym (append-nil xs)) a i j l h

@@ -3,21 +3,19 @@
 use mathlib.Core.Path.{_≡_, refl, sym, ap, ap₂, _∙_, subst}
 use mathlib.Core.Bool.{Bool, true, false, true≢false}
 use mathlib.Core.List.{List, [], _∷_, _++_}
-use mathlib.Core.Logic.{_⊎_, inl, inr, ⊎-elim}
-use Prim.Native.Nat.{ℕ, zero, suc, _+_, _-_, _*_, _/_, _%_, _^_, _≤_, _<_}
+use mathlib.Core.Logic.{⊎-elim}
+use Prim.Native.Nat.{ℕ, zero, suc, _+_, _-_, _/_, _%_, _^_, _≤_, _<_}
 use native.Mathlib.Omega.{arith}
-use native.Mathlib.Numerals.{add-one}
-use native.Mathlib.Nat.{not-suc-le-zero, le-of-suc-le-suc, add-assoc, add-zero, zero-div, lt-of-le-of-lt, div-lt-iff-lt-mul, pow-suc, zero-lt-suc, lt-irrefl, div-one, pos-of-ne-zero}
+use native.Mathlib.Nat.{not-suc-le-zero, le-of-suc-le-suc, add-assoc, add-zero, lt-of-le-of-lt, div-lt-iff-lt-mul, pow-suc, zero-lt-suc, lt-irrefl, div-one, pos-of-ne-zero}
 use lib.Dec.{eqb}
 use lib.Arith.{lt-one}
 use lib.Count.{trailingZeros, under}
 use lib.Pow.{shr-shr, shr-le}
-use lib.ListN.{length, set, length-set}
+use lib.ListN.{length, set, length-set, length-append}
 use Rattle.bits.specs.Bit.{bit, bit-zero, bit-suc, bit-shr, bit-above, bit-of-zero}
-use Rattle.bits.specs.Tab.{over, over-more, over-over, length-over}
-use Rattle.bits.specs.Words.{bitAt, Words, bit-of-word}
+use Rattle.bits.specs.Tab.{over, over-more, over-over}
 use Rattle.bits.specs.Cases.{lt-cases}
-use Rattle.bits.specs.Rows.{countBelow, rowsBelow, countOf, rowsOf, length-rows, rows-take, rows-skip, count-le, count-split}
+use Rattle.bits.specs.Rows.{countBelow, rowsBelow, length-rows, rows-take, rows-skip, count-le, count-split}
 
 -- ---- what `trailing_zeros` finds: no bit below it, and the bit at it
 
@@ -71,15 +69,11 @@ module _ (f : ℕ → Bool) where
       let c : n ≡ length (rowsBelow f m) = a .many ∙ sym (length-rows f m) in
       let t : rowsBelow f (m + 1) ≡ rowsBelow f m ++ (m ∷ []) = rows-take f m e in record {
         same = length-set d n v ∙ a .same;
-        many = sym (sym (length-rows f (m + 1)) ∙ ap length t ∙ one (rowsBelow f m) ∙ ap (λ (x : ℕ). x + 1) (sym c));
+        many = sym (sym (length-rows f (m + 1)) ∙ ap length t ∙ length-append (rowsBelow f m) (m ∷ []) ∙ ap (λ (x : ℕ). x + 1) (sym c));
         sofar =
             ap (λ (y : List ℕ). set y n v) (a .sofar) ∙ ap₂ (λ (i x : ℕ). set (over (rowsBelow f m) d₀) i x) c q
             ∙ over-more (rowsBelow f m) d₀ m (omega (arith, a .same)) ∙ ap (λ (l : List ℕ). over l d₀) (sym t);
       }
-    where
-      one : (l : List ℕ) → length (l ++ (m ∷ [])) ≡ length l + 1
-      one [] = refl
-      one (x ∷ l) = ap suc (one l) ∙ omega arith
 
   -- begun again at d, and joined to what came before
   pub listed-again : {d₀ d : List ℕ} {n m : ℕ} → m ≤ length d₀ → Listed f d₀ d n m → Listed f d d n m

@@ -6,8 +6,8 @@ use Prim.Native.Nat.{ℕ, _/_, _^_, _≤_, _<_}
 use native.Mathlib.Nat.{div-eq-of-lt, lt-of-lt-of-le}
 use borrow.Author.Tests.{ltb-true, lt-ltb, eqb-true, eq-eqb}
 use lib.Dec.{eqb, ltb}
-use lib.Pow.{pow-lt, pow-mono}
-use Rattle.bits.specs.Bit.{xorb, xorb-twice, xorb-swap, bit, bit-ext, flipBit, bit-flip, flip-lt, shr-none}
+use lib.Pow.{pow-pos, pow-lt, pow-mono}
+use Rattle.bits.specs.Bit.{xorb, xorb-twice, xorb-swap, bit, bit-ext, flipBit, bit-flip, flip-lt, clearBit, clear-lt, shr-none}
 use Rattle.bits.specs.Cases.{same-truth}
 
 -- every value of the set is below c
@@ -32,9 +32,18 @@ below-shr set c =
     same-truth (eqb (set / 2 ^ c) 0) (setBelow set c) (λ e. lt-below set c (shr-none set c (eqb-true (set / 2 ^ c) 0 e)))
     (λ e. eq-eqb (set / 2 ^ c) 0 (div-eq-of-lt (below-lt set c e)))
 
--- a single value below c is a set below c, as `flip-lt` and `clear-lt` say of toggling and of taking out
-pub single-lt : (c v : ℕ) → v < c → 2 ^ v < 2 ^ c
-single-lt c v l = pow-lt l
+-- the empty set, a single value below c, and such a value toggled or taken out
+pub below-none : (c : ℕ) → setBelow 0 c ≡ true
+below-none c = lt-below 0 c (pow-pos c)
+
+pub below-single : (v c : ℕ) → v < c → setBelow (2 ^ v) c ≡ true
+below-single v c l = lt-below (2 ^ v) c (pow-lt l)
+
+pub below-flip : (set v c : ℕ) → v < c → setBelow set c ≡ true → setBelow (flipBit set v) c ≡ true
+below-flip set v c l e = lt-below (flipBit set v) c (flip-lt c set v (below-lt set c e) l)
+
+pub below-clear : (set v c : ℕ) → v < c → setBelow set c ≡ true → setBelow (clearBit set v) c ≡ true
+below-clear set v c l e = lt-below (clearBit set v) c (clear-lt c set v (below-lt set c e) l)
 
 -- a value toggled twice
 pub flip-twice : (c s v : ℕ) → s < 2 ^ c → v < c → flipBit (flipBit s v) v ≡ s

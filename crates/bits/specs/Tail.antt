@@ -1,7 +1,7 @@
 -- No row at or above a row count is set, and the same as a test of words.
 -- Assumes nothing.
-use mathlib.Core.Path.{_≡_, refl, sym, ap, _∙_}
-use mathlib.Core.Bool.{Bool, true, false, not, _&&_, _||_, true≢false}
+use mathlib.Core.Path.{_≡_, sym, ap, _∙_}
+use mathlib.Core.Bool.{Bool, true, false, not, _&&_, _||_, or-true, and-eq-true-iff}
 use mathlib.Core.List.{List}
 use mathlib.Core.Logic.{_⊎_, inl, inr, ⊎-elim}
 use Prim.Native.Nat.{ℕ, _+_, _-_, _*_, _/_, _%_, _^_, _≤_, _<_}
@@ -12,7 +12,7 @@ use lib.Dec.{eqb, ltb}
 use lib.Pow.{shr-le}
 use lib.ListN.{length, getD, List·getD-eq-default}
 use Rattle.bits.specs.Cases.{lt-cases, eq-cases, same-truth}
-use Rattle.bits.specs.All.{allBelow, all-at, all-of, and-both, and-left, and-right}
+use Rattle.bits.specs.All.{allBelow, all-at, all-of}
 use Rattle.bits.specs.Bit.{bit, bit-shr, bit-none, bit-of-zero, bit-above}
 use Rattle.bits.specs.Words.{bitAt, Words, bit-of-word, bitAt-above}
 
@@ -37,11 +37,7 @@ module _ (ws : List ℕ) (n : ℕ) where
   tail-of-bits h =
       all-of (belowOrClear ws n) (length ws * 64)
       (λ r l. ⊎-elim (λ (m : r < n). ap (λ (t : Bool). t || not (bitAt ws r)) (lt-ltb r n m))
-      (λ (m : n ≤ r). ap (λ (t : Bool). ltb r n || not t) (h r m) ∙ or-last (ltb r n)) (lt-cases r n))
-    where
-      or-last : (t : Bool) → t || true ≡ true
-      or-last true = refl
-      or-last false = refl
+      (λ (m : n ≤ r). ap (λ (t : Bool). ltb r n || not t) (h r m) ∙ or-true (ltb r n)) (lt-cases r n))
 
   -- past the words there is nothing to test
   pub tail-past : length ws ≤ n / 64 → tailClear ws n ≡ true
@@ -74,11 +70,13 @@ module _ (ws : List ℕ) where
   unfolding zerosFrom
   tail-words n w h =
       same-truth (first && later) (tailClear ws n)
-      (λ e. tail-of-bits ws n (λ r l. clear r l (eqb-true (getD ws (n / 64) 0 / 2 ^ (n % 64)) 0 (and-left first later e)) (and-right first later e)))
+      (λ e. tail-of-bits ws n (λ r l. clear r l (eqb-true (getD ws (n / 64) 0 / 2 ^ (n % 64)) 0 (and-eq-true-iff first later .0 e .0)) (and-eq-true-iff first later .0 e .1)))
       (λ e. let z : (r : ℕ) → n ≤ r → bitAt ws r ≡ false = tail-bits ws n e in
-      and-both first later (eq-eqb (getD ws (n / 64) 0 / 2 ^ (n % 64)) 0 (word-clear w (n / 64) (n % 64) (λ r l. z r (omega arith))))
-      (all-of zero? (length ws - (n / 64 + 1))
-      (λ i l. eq-eqb (getD ws (n / 64 + 1 + i) 0) 0 (sym (div-one (getD ws (n / 64 + 1 + i) 0)) ∙ word-clear w (n / 64 + 1 + i) 0 (λ r m. z r (omega arith))))))
+      and-eq-true-iff first later .1 (
+        eq-eqb (getD ws (n / 64) 0 / 2 ^ (n % 64)) 0 (word-clear w (n / 64) (n % 64) (λ r l. z r (omega arith))),
+        all-of zero? (length ws - (n / 64 + 1))
+            (λ i l. eq-eqb (getD ws (n / 64 + 1 + i) 0) 0 (sym (div-one (getD ws (n / 64 + 1 + i) 0)) ∙ word-clear w (n / 64 + 1 + i) 0 (λ r m. z r (omega arith)))),
+      ))
     where
       zero? : ℕ → Bool
       zero? i = eqb (getD ws (n / 64 + 1 + i) 0) 0

@@ -1,16 +1,16 @@
--- The words that have the bits of a function of the row: every list of words is one, and has one function.
+-- The words whose row r is f r, for a function f of the row: every list of words is of that form, and by one function alone.
 -- Assumes nothing.
-use mathlib.Core.Path.{_≡_, refl, sym, ap, ap₂, _∙_, subst}
-use mathlib.Core.Bool.{Bool, true, false, not, cond, _&&_, _||_}
-use mathlib.Core.List.{List, [], _∷_, _++_}
+use mathlib.Core.Path.{_≡_, refl, sym, ap, _∙_}
+use mathlib.Core.Bool.{Bool, true, false, cond, _||_}
+use mathlib.Core.List.{List}
 use mathlib.Core.Logic.{_⊎_, inl, inr, ⊎-elim}
-use Prim.Native.Nat.{ℕ, zero, suc, _+_, _-_, _*_, _/_, _%_, _^_, _≤_, _<_}
+use Prim.Native.Nat.{ℕ, zero, suc, _+_, _*_, _/_, _%_, _^_, _≤_, _<_}
 use native.Mathlib.Omega.{arith}
 use native.Mathlib.Numerals.{add-one}
 use native.Mathlib.Nat.{not-suc-le-zero, eq-or-lt-of-le, le-of-suc-le-suc, lt-trans, lt-suc-self, lt-of-lt-of-le}
 use borrow.Author.Tests.{eq-eqb, ne-eqb}
 use lib.Pow.{pow-pos, pow-lt, pow-mono}
-use lib.ListN.{length, getD}
+use lib.ListN.{length}
 use Rattle.bits.specs.Cases.{lt-cases}
 use Rattle.bits.specs.Bit.{bit, bit-ext, setBit, bit-set, set-lt, bit-above}
 use Rattle.bits.specs.Tab.{tab, length-tab, getD-tab}
@@ -46,6 +46,13 @@ pub pack-more : (f : ℕ → Bool) (k : ℕ) → packBits f (k + 1) ≡ cond (f 
 unfolding packBits
 pack-more f k = ap (packBits f) (add-one k)
 
+-- bits from n on that are not set may be left out
+pub pack-cut : (f : ℕ → Bool) (n m : ℕ) → n ≤ m → ((k : ℕ) → n ≤ k → k < m → f k ≡ false) → packBits f m ≡ packBits f n
+pack-cut f n m l h =
+    bit-ext m (packBits f m) (packBits f n) (pack-lt f m) (lt-of-lt-of-le (pack-lt f n) (pow-mono l))
+    (λ k o. bit-pack f m k o
+    ∙ ⊎-elim (λ (p : k < n). sym (bit-pack f n k p)) (λ (p : n ≤ k). h k p o ∙ sym (bit-above n (packBits f n) k (pack-lt f n) p)) (lt-cases k n))
+
 -- word i of them: its 64 rows from i * 64 on
 abbrev pub wordOf : (ℕ → Bool) → ℕ → ℕ
 wordOf f i = packBits (λ k. f (i * 64 + k)) 64
@@ -69,23 +76,19 @@ module _ (f : ℕ → Bool) (n : ℕ) where
   unfolding vec
   words-vec = words-tab (wordOf f) n (λ i. pack-lt (λ k. f (i * 64 + k)) 64)
 
+-- the words whose bits are f are one list
+pub vec-unique : (f : ℕ → Bool) (n : ℕ) (ws : List ℕ) → length ws ≡ n → Words ws → ((r : ℕ) → r < n * 64 → bitAt ws r ≡ f r) → ws ≡ vec f n
+vec-unique f n ws e h b =
+    bitAt-ext ws (vec f n) (e ∙ sym (length-vec f n)) h (words-vec f n)
+    (λ r l. let m : r < n * 64 = omega arith in b r m ∙ sym (bitAt-vec f n r m))
+
 -- every list of words is the vector of its own bits
 pub vec-bits : (ws : List ℕ) → Words ws → vec (bitAt ws) (length ws) ≡ ws
-vec-bits ws h =
-    bitAt-ext (vec (bitAt ws) (length ws)) ws (length-vec (bitAt ws) (length ws)) (words-vec (bitAt ws) (length ws)) h
-    (λ r l. bitAt-vec (bitAt ws) (length ws) r (subst (λ (x : ℕ). r < x * 64) (length-vec (bitAt ws) (length ws)) l))
-
--- the words whose bits are f are one list
-pub vec-unique : (f : ℕ → Bool) (ws : List ℕ) → Words ws → ((r : ℕ) → r < length ws * 64 → bitAt ws r ≡ f r) → ws ≡ vec f (length ws)
-vec-unique f ws h e =
-    bitAt-ext ws (vec f (length ws)) (sym (length-vec f (length ws))) h (words-vec f (length ws))
-    (λ r l. e r l ∙ sym (bitAt-vec f (length ws) r l))
+vec-bits ws h = sym (vec-unique (bitAt ws) (length ws) ws refl h (λ r l. refl))
 
 -- two functions that agree on every row of the words
 pub vec-ext : (f g : ℕ → Bool) (n : ℕ) → ((r : ℕ) → r < n * 64 → f r ≡ g r) → vec f n ≡ vec g n
-vec-ext f g n h =
-    bitAt-ext (vec f n) (vec g n) (length-vec f n ∙ sym (length-vec g n)) (words-vec f n) (words-vec g n)
-    (λ r l. let m : r < n * 64 = subst (λ (k : ℕ). r < k * 64) (length-vec f n) l in bitAt-vec f n r m ∙ h r m ∙ sym (bitAt-vec g n r m))
+vec-ext f g n h = vec-unique g n (vec f n) (length-vec f n) (words-vec f n) (λ r l. bitAt-vec f n r l ∙ h r l)
 
 -- no row: words of 0
 pack-none : (k : ℕ) → packBits (λ r. false) k ≡ 0
@@ -95,10 +98,3 @@ pack-none (suc k) = pack-none k
 
 pub word-none : (i : ℕ) → 0 ≡ wordOf (λ r. false) i
 word-none i = sym (pack-none 64)
-
--- bits from n on that are not set may be left out
-pub pack-cut : (f : ℕ → Bool) (n m : ℕ) → n ≤ m → ((k : ℕ) → n ≤ k → k < m → f k ≡ false) → packBits f m ≡ packBits f n
-pack-cut f n m l h =
-    bit-ext m (packBits f m) (packBits f n) (pack-lt f m) (lt-of-lt-of-le (pack-lt f n) (pow-mono l))
-    (λ k o. bit-pack f m k o
-    ∙ ⊎-elim (λ (p : k < n). sym (bit-pack f n k p)) (λ (p : n ≤ k). h k p o ∙ sym (bit-above n (packBits f n) k (pack-lt f n) p)) (lt-cases k n))

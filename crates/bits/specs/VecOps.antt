@@ -1,16 +1,17 @@
 -- What each operation makes of the vector of a function: rows put, turned over, listed, counted, none from a row on.
 -- Assumes nothing.
-use mathlib.Core.Path.{_≡_, refl, sym, ap, _∙_, subst}
+use mathlib.Core.Path.{_≡_, sym, ap, _∙_, subst}
 use mathlib.Core.Bool.{Bool, true, false, cond}
 use mathlib.Core.List.{List}
 use mathlib.Core.Logic.{⊎-elim}
-use Prim.Native.Nat.{ℕ, zero, suc, _*_, _/_, _%_, _≤_, _<_}
-use lib.Dec.{eqb}
-use lib.ListN.{length, getD, replicate}
+use Prim.Native.Nat.{ℕ, _*_, _/_, _%_, _^_, _≤_, _<_}
+use native.Mathlib.Omega.{arith}
+use lib.Dec.{eqb, lit<}
+use lib.ListN.{length, getD, replicate, length-replicate, getD-replicate, List·getD-eq-default}
 use Rattle.bits.specs.Bit.{xorb, bit, bit-of-zero}
 use Rattle.bits.specs.Cases.{lt-cases}
-use Rattle.bits.specs.Words.{bitAt, Words, bitAt-ext, bitAt-above, bitAt-flip, bitAt-put, bitAt-xor, flipAt, putAt, length-flip, length-put, xorWords, length-xorWords, words-flip, words-put, words-xor}
-use Rattle.bits.specs.Vec.{vec, length-vec, bitAt-vec, words-vec}
+use Rattle.bits.specs.Words.{bitAt, Words, bitAt-above, flipAt, length-flip, words-flip, bitAt-flip, bitAt-put, bitAt-xor, putAt, length-put, xorWords, length-xorWords, words-put, words-xor}
+use Rattle.bits.specs.Vec.{vec, length-vec, bitAt-vec, words-vec, vec-unique}
 use Rattle.bits.specs.Tail.{tailClear, tail-of-bits}
 use Rattle.bits.specs.Rows.{countBelow, rowsBelow, countOf, rowsOf, rows-ext, count-ext}
 
@@ -34,28 +35,34 @@ module _ (f : ℕ → Bool) (n : ℕ) where
 -- a vector with the rows of another turned over
 pub xor-vec : (a : List ℕ) (f : ℕ → Bool) → Words a → xorWords a (vec f (length a)) ≡ vec (λ r. xorb (bitAt a r) (f r)) (length a)
 xor-vec a f h =
-    bitAt-ext (xorWords a (vec f (length a))) (vec (λ r. xorb (bitAt a r) (f r)) (length a))
-    (length-xorWords a (vec f (length a)) ∙ sym (length-vec (λ r. xorb (bitAt a r) (f r)) (length a)))
-    (words-xor a (vec f (length a)) h (words-vec f (length a))) (words-vec (λ r. xorb (bitAt a r) (f r)) (length a))
-    (λ r l. let m : r < length a * 64 = subst (λ (k : ℕ). r < k * 64) (length-xorWords a (vec f (length a))) l in
-    bitAt-xor a (vec f (length a)) r m ∙ ap (xorb (bitAt a r)) (bitAt-vec f (length a) r m) ∙ sym (bitAt-vec (λ k. xorb (bitAt a k) (f k)) (length a) r m))
+    vec-unique (λ r. xorb (bitAt a r) (f r)) (length a) (xorWords a (vec f (length a))) (length-xorWords a (vec f (length a))) (words-xor a (vec f (length a)) h (words-vec f (length a)))
+    (λ r l. bitAt-xor a (vec f (length a)) r l ∙ ap (xorb (bitAt a r)) (bitAt-vec f (length a) r l))
 
--- a bit made `on` is the function changed at that row
-pub put-vec : (f : ℕ → Bool) (n r : ℕ) (on : Bool) → r < n * 64 → putAt (vec f n) r on ≡ vec (λ q. cond (eqb r q) on (f q)) n
-put-vec f n r on h =
-    let e : length (putAt (vec f n) r on) ≡ n = length-put (vec f n) r on ∙ length-vec f n in
-    bitAt-ext (putAt (vec f n) r on) (vec (λ q. cond (eqb r q) on (f q)) n) (e ∙ sym (length-vec (λ q. cond (eqb r q) on (f q)) n))
-    (words-put (vec f n) r on (words-vec f n)) (words-vec (λ q. cond (eqb r q) on (f q)) n)
-    (λ q l. let m : q < n * 64 = subst (λ (k : ℕ). q < k * 64) e l in
-    bitAt-put on (vec f n) r (subst (λ (k : ℕ). r < k * 64) (sym (length-vec f n)) h) q ∙ ap (cond (eqb r q) on) (bitAt-vec f n q m)
-    ∙ sym (bitAt-vec (λ q. cond (eqb r q) on (f q)) n q m))
+module _ (f : ℕ → Bool) (n r : ℕ) (h : r < n * 64) where
+  inside : r < length (vec f n) * 64
+  inside = subst (λ (k : ℕ). r < k * 64) (sym (length-vec f n)) h
 
--- no row of words of 0 is set
-pub bitAt-zeros : (n r : ℕ) → bitAt (replicate n 0) r ≡ false
-unfolding bitAt
-bitAt-zeros n r = ap (λ (w : ℕ). bit w (r % 64)) (zeros n (r / 64)) ∙ bit-of-zero (r % 64)
-  where
-    zeros : (n i : ℕ) → _≡_ {A = ℕ} (getD (replicate n 0) i 0) 0
-    zeros zero i = refl
-    zeros (suc n) zero = refl
-    zeros (suc n) (suc i) = zeros n i
+  -- a row made `on` is the function changed at that row
+  pub put-vec : (on : Bool) → putAt (vec f n) r on ≡ vec (λ q. cond (eqb r q) on (f q)) n
+  put-vec on =
+      vec-unique (λ q. cond (eqb r q) on (f q)) n (putAt (vec f n) r on) (length-put (vec f n) r on ∙ length-vec f n) (words-put (vec f n) r on (words-vec f n))
+      (λ q l. bitAt-put on (vec f n) r inside q ∙ ap (cond (eqb r q) on) (bitAt-vec f n q l))
+
+  -- a row turned over is the function turned over at that row
+  pub flip-vec : flipAt (vec f n) r ≡ vec (λ q. xorb (eqb r q) (f q)) n
+  flip-vec =
+      vec-unique (λ q. xorb (eqb r q) (f q)) n (flipAt (vec f n) r) (length-flip (vec f n) r ∙ length-vec f n) (words-flip (vec f n) r (words-vec f n))
+      (λ q l. bitAt-flip (vec f n) r inside q ∙ ap (xorb (eqb r q)) (bitAt-vec f n q l))
+
+-- words of 0 have no row
+module _ (n : ℕ) where
+  zero-at : (i : ℕ) → _≡_ {A = ℕ} (getD (replicate n 0) i 0) 0
+  zero-at i = ⊎-elim (λ (l : i < n). getD-replicate n i 0 0 l) (λ (l : n ≤ i). List·getD-eq-default (replicate n 0) 0 (omega (arith, length-replicate {A = ℕ} n 0))) (lt-cases i n)
+
+  pub bitAt-zeros : (r : ℕ) → bitAt (replicate n 0) r ≡ false
+  unfolding bitAt
+  bitAt-zeros r = ap (λ (w : ℕ). bit w (r % 64)) (zero-at (r / 64)) ∙ bit-of-zero (r % 64)
+
+  pub zeros-vec : replicate n 0 ≡ vec (λ r. false) n
+  zeros-vec =
+      vec-unique (λ r. false) n (replicate n 0) (length-replicate n 0) (λ i. subst (λ (x : ℕ). x < 2 ^ 64) (sym (zero-at i)) (lit< tt)) (λ r l. bitAt-zeros r)

@@ -1,6 +1,6 @@
 -- Many vectors in one list of words: vector i is its 32 words from 32 * i on, so that row r of it is bit 2048 * i + r of them all.
 -- Assumes nothing.
-use mathlib.Core.Path.{_≡_, refl, sym, ap, ap₂, _∙_, subst}
+use mathlib.Core.Path.{_≡_, sym, ap, ap₂, _∙_, subst}
 use mathlib.Core.Bool.{Bool, true, _&&_}
 use mathlib.Core.List.{List}
 use mathlib.Core.Logic.{_⊎_, inl, inr, ⊎-elim}
@@ -9,11 +9,12 @@ use native.Mathlib.Omega.{arith}
 use lib.Dec.{eqb, lit<}
 use lib.ListN.{length, getD, List·getD-eq-default}
 use Rattle.bits.specs.Cases.{lt-cases}
-use Rattle.bits.specs.All.{allBelow, all-at, all-of, all-ext, all-and, all-swap, orBelow, or-clear, or-all}
+use Rattle.bits.specs.All.{allBelow, all-of, all-ext, all-and, all-swap}
+use Rattle.bits.specs.OrWords.{orBelow, or-clear, or-all}
 use Rattle.bits.specs.Bit.{bit}
-use Rattle.bits.specs.Part.{part, putPart, length-part, getD-part, part-same, part-other}
-use Rattle.bits.specs.Words.{bitAt, Words, bitAt-ext}
-use Rattle.bits.specs.Vec.{vec, length-vec, bitAt-vec, words-vec, vec-bits}
+use Rattle.bits.specs.Part.{part, putPart, length-part, getD-part, getD-before, getD-within, getD-after, part-same, part-other}
+use Rattle.bits.specs.Words.{bitAt, Words}
+use Rattle.bits.specs.Vec.{vec, length-vec, bitAt-vec, words-vec, vec-unique, vec-bits}
 use Rattle.bits.specs.Tail.{tailClear, zerosFrom, tail-words, tail-past}
 
 -- ---- a part of the words, as rows
@@ -35,10 +36,32 @@ module _ (ws : List ℕ) (a n : ℕ) (fits : a + n ≤ length ws) where
 pub part-vec : (f : ℕ → Bool) (m a n : ℕ) → a + n ≤ m → part a n (vec f m) ≡ vec (λ r. f (a * 64 + r)) n
 part-vec f m a n h =
     let fits : a + n ≤ length (vec f m) = subst (λ (x : ℕ). a + n ≤ x) (sym (length-vec f m)) h in
-    let l : length (part a n (vec f m)) ≡ n = length-part a n (vec f m) fits in
-    bitAt-ext (part a n (vec f m)) (vec (λ r. f (a * 64 + r)) n) (l ∙ sym (length-vec (λ r. f (a * 64 + r)) n)) (words-part (vec f m) a n fits (words-vec f m)) (words-vec (λ r. f (a * 64 + r)) n)
-    (λ r k. let o : r < n * 64 = subst (λ (x : ℕ). r < x * 64) l k in
-    bitAt-part (vec f m) a n fits r o ∙ bitAt-vec f m (a * 64 + r) (omega arith) ∙ sym (bitAt-vec (λ r. f (a * 64 + r)) n r o))
+    vec-unique (λ r. f (a * 64 + r)) n (part a n (vec f m)) (length-part a n (vec f m) fits) (words-part (vec f m) a n fits (words-vec f m))
+    (λ r l. bitAt-part (vec f m) a n fits r l ∙ bitAt-vec f m (a * 64 + r) (omega arith))
+
+-- the words with another part in its place
+module _ (a : ℕ) (ys ws : List ℕ) (fits : a + length ys ≤ length ws) where
+  pub bitAt-within : (r : ℕ) → r < length ys * 64 → bitAt (putPart a ys ws) (a * 64 + r) ≡ bitAt ys r
+  unfolding bitAt
+  bitAt-within r h =
+      let i : (a * 64 + r) / 64 ≡ a + r / 64 = omega arith in
+      let k : (a * 64 + r) % 64 ≡ r % 64 = omega arith in
+      ap₂ (λ (x y : ℕ). bit (getD (putPart a ys ws) x 0) y) i k ∙ ap (λ (w : ℕ). bit w (r % 64)) (getD-within a ys ws fits (r / 64) 0 (omega arith))
+
+  pub bitAt-outside : (r : ℕ) → (r < a * 64) ⊎ ((a + length ys) * 64 ≤ r) → bitAt (putPart a ys ws) r ≡ bitAt ws r
+  unfolding bitAt
+  bitAt-outside r s =
+      ap (λ (w : ℕ). bit w (r % 64))
+      (⊎-elim (λ (l : r < a * 64). getD-before a ys ws fits (r / 64) 0 (omega arith)) (λ (l : (a + length ys) * 64 ≤ r). getD-after a ys ws fits (r / 64) 0 (omega arith)) s)
+
+  pub words-putPart : Words ys → Words ws → Words (putPart a ys ws)
+  words-putPart hy hw i =
+      ⊎-elim (λ (l : i < a). subst (λ (x : ℕ). x < 2 ^ 64) (sym (getD-before a ys ws fits i 0 l)) (hw i))
+      (λ (l : a ≤ i). ⊎-elim
+      (λ (m : i < a + length ys). let e : a + (i - a) ≡ i = omega arith in
+      subst (λ (x : ℕ). x < 2 ^ 64) (sym (ap (λ (k : ℕ). getD (putPart a ys ws) k 0) (sym e) ∙ getD-within a ys ws fits (i - a) 0 (omega arith))) (hy (i - a)))
+      (λ (m : a + length ys ≤ i). subst (λ (x : ℕ). x < 2 ^ 64) (sym (getD-after a ys ws fits i 0 m)) (hw i)) (lt-cases i (a + length ys)))
+      (lt-cases i a)
 
 -- ---- vector i
 

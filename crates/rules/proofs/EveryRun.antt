@@ -22,7 +22,8 @@ use Rattle.rules.specs.Refusals.{isEmpty, badColumn, tests, refusal}
 use Rattle.rules.specs.Step.{created, relisted, tidyRecord, effect, unless, step, transcript}
 use Rattle.rules.specs.Plain.{Wish, wishes, sitting, wishesOf, Observer, seat, movedBy, columnNow, started, accepts, watches}
 use Rattle.rules.specs.Demand.{Numbers, Overtaken, Right, AllRight}
-use Rattle.rules.proofs.Run.{Inv, AllFail, all-fail, start-inv, moved-is, accepted, step-keeps}
+use Rattle.rules.proofs.Tests.{AllFail, all-fail}
+use Rattle.rules.proofs.Run.{Inv, start-inv, moved-is, accepted, step-keeps}
 use Rattle.rules.proofs.Answers.{query-lists, read-reads, begin-numbers, tidy-numbers, list-count, behind, open-low, conflict-plain, not-empty}
 
 -- ---- the refusals of a commit that has something listed: 12 where there is a conflict, and no other gives 12

@@ -14,3 +14,11 @@ pub mod Start
 pub mod Run
 pub mod Answers
 pub mod EveryRun
+pub mod Tests
+pub mod Numbers
+pub mod Shapes
+pub mod Fits
+pub mod Undamaged
+pub mod Whole
+pub mod Lift
+pub mod Examples

@@ -1,5 +1,5 @@
--- The log's stretches, and the flip sets at a stamp: all that the other proofs know of how the log lies. No other file here
--- unfolds `stampOf`, `upTo`, `above`, `between`, `grown` or `allChanges`. Assumes nothing.
+-- The log's stretches, and the flip sets at a stamp: what the other proofs know of how the log lies. Beside this file only
+-- Fits.antt unfolds `stampOf`, `upTo`, `above`, `between`, `grown` or `allChanges`. Assumes nothing.
 use mathlib.Core.Path.{_≡_, refl, sym, ap, _∙_}
 use mathlib.Core.Bool.{false}
 use mathlib.Core.Option.{Option, none, some, Option·getD}

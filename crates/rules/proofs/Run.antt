@@ -2,7 +2,7 @@
 -- Assumes nothing.
 use mathlib.Core.Path.{_≡_, refl, sym, _∙_}
 use mathlib.Core.Bool.{Bool, true, false, not, _&&_, cond, true≢false}
-use mathlib.Core.Option.{Option, none, some, Option·some-ne-none}
+use mathlib.Core.Option.{Option, none, some}
 use mathlib.Core.List.{List, [], _∷_, _++_}
 use Prim.Native.Nat.{ℕ, zero, suc, _+_, _≤_, _<_}
 use native.Mathlib.Omega.{arith}
@@ -15,7 +15,7 @@ use Rattle.rules.specs.Commit.{conflicts, commitChanges}
 use Rattle.rules.specs.Tidy.{moved, stale}
 use Rattle.rules.specs.Damage.{Within, EntriesFit, Once}
 use Rattle.rules.specs.Calls.{Column, Call, create, begin, query, read, update, delete, insert, commit, tidy, abort}
-use Rattle.rules.specs.Refusals.{Test, firstOf, isFull, badColumn, tests, refusal}
+use Rattle.rules.specs.Refusals.{isFull, badColumn, tests, refusal}
 use Rattle.rules.specs.Step.{created, seated, beginning, relisted, committing, tidying, effect, unless, step, run, transcript}
 use Rattle.rules.specs.Plain.{Wish, hold, grow, Event, committed, tidied, Seat, away, sitting, Observer, seat, movedBy, sits, sitsDown, wishing, commitsNow, tidiesNow, started, accepts, watches, observes}
 use Rattle.rules.proofs.Small.{length-snoc}
@@ -27,6 +27,7 @@ use Rattle.rules.proofs.Agrees.{moved-rows}
 use Rattle.rules.proofs.Core.{Core}
 use Rattle.rules.proofs.Committing.{commit-keeps}
 use Rattle.rules.proofs.Tidying.{tidy-keeps}
+use Rattle.rules.proofs.Tests.{AllFail, all-fail}
 use Rattle.rules.proofs.Start.{start-core}
 
 -- an open session, and what the observer has of it
@@ -54,18 +55,6 @@ pub record Inv (st : State) (o : Observer) : Type 0 where
   pub sat : (i : ℕ) → Sits (st .values) (o .column) (o .events) (session st i) (seat o i)
 
 -- ---- accepted: each test failed
-
-abbrev pub AllFail : List Test → Type 0
-AllFail [] = Unit {0}
-AllFail (t ∷ ts) = (t .0 ≡ false) × AllFail ts
-
-pub all-fail : (ts : List Test) → firstOf ts ≡ none → AllFail ts
-all-fail [] e = tt
-all-fail (t ∷ ts) e = go (t .0) refl e (all-fail ts)
-  where
-    go : (b : Bool) → t .0 ≡ b → cond b (some (t .1)) (firstOf ts) ≡ none → (firstOf ts ≡ none → AllFail ts) → (t .0 ≡ false) × AllFail ts
-    go true p q ih = absurd (Option·some-ne-none (t .1) q)
-    go false p q ih = (p, ih q)
 
 -- ---- sessions and seats
 

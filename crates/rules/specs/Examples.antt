@@ -1,8 +1,13 @@
--- The run printed in document 01, its continuations P6 to P9, and the ways to look at a state that the marked examples use.
+-- The run printed in document 01, its continuations P6 to P9, and the statement of the examples marked P as one table.
 -- Assumes nothing.
-use mathlib.Core.Option.{Option, none, some}
+use mathlib.Core.Path.{_≡_}
+use mathlib.Core.Bool.{false}
+use mathlib.Core.Option.{some}
 use mathlib.Core.List.{List, [], _∷_, _++_, map}
 use Prim.Native.Nat.{ℕ}
+use lib.ListN.{getD, take}
+use Rattle.bits.specs.Bit.{bit}
+use Rattle.bits.specs.Words.{bitAt}
 use Rattle.bits.specs.Rows.{rowsBelow}
 use Rattle.rules.specs.Limits.{maxRows}
 use Rattle.rules.specs.State.{Change, Record, State, chain}
@@ -39,11 +44,23 @@ printed₈ = abort 0 ∷ begin 0 ∷ begin 1 ∷ insert 1 2 ∷ commit 1 ∷ tid
 unfoldable pub printed₉ : List Call
 printed₉ = create 1 [] ∷ begin 0 ∷ asks 0 0 ∷ []
 
--- not in the document: two tidies empty the set of row 0, and a commit builds on it
+-- Not in the document: two tidies empty the set of row 0, and a commit builds on it
 unfoldable pub emptying : List Call
 emptying =
     begin 0 ∷ update 0 0 3 ∷ commit 0 ∷ begin 0 ∷ tidy 0 3 ∷ abort 0 ∷ begin 0 ∷ tidy 0 1 ∷ abort 0 ∷ begin 0 ∷ update 0 0 2 ∷ commit 0 ∷ begin 0
     ∷ asks 0 1 ∷ []
+
+-- row 0 goes to 3 and back to 1, so that its set is empty again
+unfoldable pub returning : List Call
+returning = begin 0 ∷ update 0 0 3 ∷ commit 0 ∷ begin 0 ∷ update 0 0 1 ∷ commit 0 ∷ begin 0 ∷ asks 0 3 ∷ []
+
+-- a second change of row 0
+unfoldable pub replacing : List Call
+replacing = begin 0 ∷ update 0 0 3 ∷ update 0 0 2 ∷ commit 0 ∷ begin 0 ∷ read 0 0 ∷ []
+
+-- "a tidy by the same session too": it moves the row that the session has listed
+unfoldable pub overtaking : List Call
+overtaking = begin 0 ∷ update 0 0 3 ∷ commit 0 ∷ begin 0 ∷ update 0 0 2 ∷ tidy 0 3 ∷ commit 0 ∷ []
 
 -- the answers of a run, and its last one
 abbrev pub answers : State → List Call → List Answer
@@ -62,3 +79,49 @@ recordsOf st = map (λ (x : Record). map (λ (c : Change). (c .row, c .flips)) (
 -- the rows of the newest slot of value v
 abbrev pub newestRows : State → ℕ → List ℕ
 newestRows st v = rowsBelow (newest (chain (st .chains) v) .vector) maxRows
+
+-- P1 to P10, from whatever state the run's `column` finds. A flip set is its number: {1,3} is 10, {1} is 2, {1,2,3} is 14,
+-- {2} is 4.
+pub record Marked : Type 0 where
+  -- "Output, a line each: `ok 4`, `ok 0 4`, .."
+  pub printed-answers : (st : State)
+      → answers st printed
+      ≡ ok (4 ∷ []) ∷ ok (0 ∷ 4 ∷ []) ∷ ok (0 ∷ 4 ∷ []) ∷ ok (1 ∷ []) ∷ ok (1 ∷ 4 ∷ []) ∷ listed 0 false (0 ∷ 3 ∷ []) ∷ ok (1 ∷ 4 ∷ [])
+      ∷ listed 1 false (3 ∷ []) ∷ ok (2 ∷ 1 ∷ []) ∷ listed 1 false (0 ∷ []) ∷ ok (1 ∷ []) ∷ refused 12 ∷ ok (1 ∷ []) ∷ []
+  -- "record 1 is row 0 with {1,3}"
+  pub p1 : (st : State) → recordsOf (run st (take 5 printed)) ≡ ((0, 10) ∷ []) ∷ []
+  -- "record 2 is row 0 with {1}"
+  pub p2 : (st : State) → recordsOf (run st (take 9 printed)) ≡ ((0, 10) ∷ []) ∷ ((0, 2) ∷ []) ∷ []
+  -- "value 3's new slot has row 0 only"
+  pub p3 : (st : State) → newestRows (run st (take 9 printed)) 3 ≡ 0 ∷ []
+  -- "session 1 lists rows 0 and 3 for value 1 after commit 1"
+  pub p4 : (st : State) → lastAnswer st (take 6 printed) ≡ listed 0 false (0 ∷ 3 ∷ [])
+  -- "its commit conflicts"
+  pub p5 : (st : State) → lastAnswer st (take 12 printed) ≡ refused 12
+  -- "P6 `begin 1` starts at 2; `update 1 0 2` and `commit 1` write record 3, row 0 with {1,2,3}"
+  pub p6-start : (st : State) → lastAnswer st (printed ++ take 1 printed₆) ≡ ok (2 ∷ 4 ∷ [])
+  pub p6-record : (st : State)
+      → recordsOf (run st (printed ++ take 3 printed₆)) ≡ ((0, 10) ∷ []) ∷ ((0, 2) ∷ []) ∷ ((0, 14) ∷ []) ∷ []
+  -- "P7 `begin 0` there still answers `ok 1 4`"
+  pub p7 : (st : State) → lastAnswer st (printed ++ printed₆) ≡ ok (1 ∷ 4 ∷ [])
+  -- "P8 .. (record 4: row 4 with {2}), `tidy 0 2` is refused by 14"
+  pub p8-record : (st : State)
+      → recordsOf (run st (printed ++ printed₆ ++ take 5 printed₈))
+      ≡ ((0, 10) ∷ []) ∷ ((0, 2) ∷ []) ∷ ((0, 14) ∷ []) ∷ ((4, 4) ∷ []) ∷ []
+  pub p8 : (st : State) → lastAnswer st (printed ++ printed₆ ++ printed₈) ≡ refused 14
+  -- "P9 `column 1` makes 0 rows; a query of 0 lists none."
+  pub p9 : (st : State) → answers st printed₉ ≡ ok (0 ∷ []) ∷ ok (0 ∷ 0 ∷ []) ∷ listed 0 false [] ∷ []
+  -- "P10 row 2,047 is bit 63 of word 31"
+  pub p10 : (words : List ℕ) → bitAt words 2047 ≡ bit (getD words 31 0) 63
+
+-- not in the document: what P1 to P10 leave open of the faults that look right
+pub record Caught : Type 0 where
+  -- with the emptied set left out of record 3, the older {1} would come back in record 4, and row 0 would be listed too
+  pub emptied : lastAnswer start emptying ≡ listed 0 false (3 ∷ [])
+  pub emptied-records : recordsOf (run start emptying) ≡ ((0, 10) ∷ []) ∷ ((0, 2) ∷ []) ∷ ((0, 0) ∷ []) ∷ ((0, 12) ∷ []) ∷ []
+  -- with the older {1,3} counted after the newer {}, row 0 would be listed
+  pub returned : lastAnswer start returning ≡ listed 0 false []
+  -- with the second change dropped, row 0 would hold 3
+  pub replaced : lastAnswer start replacing ≡ value (some 2)
+  -- with tidies passed over, the commit would be accepted
+  pub overtaken : lastAnswer start overtaking ≡ refused 12

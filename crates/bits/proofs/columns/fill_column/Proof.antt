@@ -1,3 +1,5 @@
+-- `bits::columns::fill_column` meets its contract. The invariant: the words before i are those of the vector. The measure is what is left of the words.
+-- Assumes nothing.
 use Prim.Native.Nat.{_-_}
 use borrow.Author.Needs.{needs}
 use lib.ListN.{length}
@@ -6,9 +8,6 @@ use Rattle.bits.specs.Vec.{vec, wordOf}
 use Rattle.bits.specs.Column.{holdsAt}
 use Rattle.bits.proofs.columns.fill_column.Statement.{statement}
 use Rattle.bits.proofs.columns.fill_column.Tie as tie
-use Rattle.bits.proofs.columns.fill_column.Reads as reads
-use Rattle.bits.proofs.columns.fill_column.Lts as lts
-use Rattle.bits.proofs.columns.column_word.Reads as column-word-reads
 
 abbrev Inv-loop : tie.InvT-loop
 Inv-loop dst₀ col v i₀ dst i = Filled (wordOf (holdsAt col v)) dst₀ dst i
@@ -16,39 +15,30 @@ Inv-loop dst₀ col v i₀ dst i = Filled (wordOf (holdsAt col v)) dst₀ dst i
 abbrev μ-loop : tie.MeasureT-loop
 μ-loop dst₀ col v i₀ dst i = length dst₀ - i
 
--- src/columns.rt:52:5
 loop-holds : tie.Need-loop-holds Inv-loop μ-loop
 loop-holds c = search filled-none
 
--- src/columns.rt:53:18
 column-word-requires : tie.Need-column-word-requires Inv-loop μ-loop
 column-word-requires c κs = search needs
 
--- src/columns.rt:53:9
 mul-dst : tie.Need-mul-dst Inv-loop μ-loop
 mul-dst c = search needs
 
--- src/columns.rt:53:9
 slice-write-dst : tie.Need-slice-write-dst Inv-loop μ-loop
 slice-write-dst c = search needs
 
--- src/columns.rt:54:9
 add-i : tie.Need-add-i Inv-loop μ-loop
 add-i c = search needs
 
--- src/columns.rt:52:5
 loop-less : tie.Need-loop-less Inv-loop μ-loop
 loop-less c = search needs
 
--- src/columns.rt:52:5
 loop-again : tie.Need-loop-again Inv-loop μ-loop
 loop-again c = search filled-more
 
--- src/columns.rt:47:1
 same-length : tie.Need-same-length Inv-loop μ-loop
 same-length c = search needs
 
--- src/columns.rt:47:1
 returns : tie.Need-returns Inv-loop μ-loop
 unfolding vec
 returns c = search filled-all

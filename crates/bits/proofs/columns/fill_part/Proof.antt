@@ -1,3 +1,5 @@
+-- `bits::columns::fill_part` meets its contract. What `fill_column` leaves in the part, said of the whole.
+-- Assumes nothing.
 use mathlib.Core.Path.{ap, _∙_}
 use Prim.Native.Nat.{_+_}
 use native.Mathlib.Nat.{add-sub-cancel-left}
@@ -9,39 +11,28 @@ use Rattle.bits.specs.Part.{part-back}
 use Rattle.bits.specs.Column.{holdsAt}
 use Rattle.bits.proofs.columns.fill_part.Statement.{statement}
 use Rattle.bits.proofs.columns.fill_part.Tie as tie
-use Rattle.bits.proofs.columns.fill_part.Reads as reads
-use Rattle.bits.proofs.columns.fill_part.Lts as lts
-use Rattle.bits.proofs.columns.fill_column.Reads as fill-column-reads
 
--- src/columns.rt:63:13
 add-e : tie.Need-add-e
 add-e c = search needs
 
--- src/columns.rt:64:17
 mul-fill-column : tie.Need-mul-fill-column
 mul-fill-column c = search needs
 
--- src/columns.rt:64:17
 sub-fill-column : tie.Need-sub-fill-column
 sub-fill-column c = search needs
 
--- src/columns.rt:64:17
 part-fill-column-start : tie.Need-part-fill-column-start
 part-fill-column-start c = search needs
 
--- src/columns.rt:64:17
 part-fill-column-end : tie.Need-part-fill-column-end
 part-fill-column-end c = search needs
 
--- src/columns.rt:64:5
 fill-column-requires : tie.Need-fill-column-requires
 fill-column-requires c κs = search needs
 
--- src/columns.rt:59:1
 same-length : tie.Need-same-length
 same-length c = search needs
 
--- src/columns.rt:59:1
 returns : tie.Need-returns
 returns c =
     let a = c .before .before .before .before .before .before .args in

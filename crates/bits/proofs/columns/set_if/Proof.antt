@@ -1,20 +1,17 @@
-use Rattle.bits.specs.Bit.{setBit, one-shl}
+-- `bits::columns::set_if` meets its contract. `1 << k` is 2 ^ k, and a branch not taken leaves the word.
+-- Assumes nothing.
 use borrow.Author.Needs.{needs}
+use Rattle.bits.specs.Bit.{setBit, one-shl}
 use Rattle.bits.proofs.columns.set_if.Statement.{statement}
 use Rattle.bits.proofs.columns.set_if.Tie as tie
-use Rattle.bits.proofs.columns.set_if.Reads as reads
-use Rattle.bits.proofs.columns.set_if.Lts as lts
 
--- src/columns.rt:17:18
 shl-result : tie.Need-shl-result
 shl-result c = search needs
 
--- src/columns.rt:13:1
 returns : tie.Need-returns
 unfolding setBit
 returns c = rw (one-shl 64 (c .before .args .k) (c .before .pre), c .if1 .taken)
 
--- src/columns.rt:13:1
 returns-2 : tie.Need-returns-2
 returns-2 c = search needs
 

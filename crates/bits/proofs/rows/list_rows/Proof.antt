@@ -1,13 +1,14 @@
--- `bits::list_rows` meets its contract. Assumes nothing.
-use mathlib.Core.Path.{_≡_, refl, ap, _∙_, sym, subst}
+-- `bits::rows::list_rows` meets its contract. The outer invariant: the rows of the words before i are listed. The inner one: so are those of word i before its bit p, and x is what is left of it. The measures are what is left of the words, and of the 64 bits.
+-- Assumes nothing.
+use mathlib.Core.Path.{_≡_, refl, ap, _∙_, subst}
 use Prim.Native.Nat.{ℕ, _+_, _*_, _-_, _^_, _≤_, _<_}
 use native.Mathlib.Omega.{arith}
 use borrow.Author.Needs.{needs}
 use lib.ListN.{length, getD}
+use lib.Count.{trailingZeros}
 use Rattle.bits.specs.Words.{bitAt, bit-of-word}
 use Rattle.bits.specs.Rows.{countBelow, rowsBelow, countOf, rowsOf, count-le}
 use Rattle.bits.specs.Tab.{over}
-use lib.Count.{trailingZeros}
 use Rattle.bits.specs.Scan.{Listed, Scan, listed-none, listed-again, listed-join, scan-none, scan-more, scan-end, next-lt}
 use Rattle.bits.proofs.rows.list_rows.Statement.{statement}
 use Rattle.bits.proofs.rows.list_rows.Tie as tie
@@ -64,7 +65,7 @@ add-p : tie.Need-add-p Inv-loop2 μ-loop2 Inv-loop μ-loop
 add-p c = omega (arith, bound c)
 
 mul-out : tie.Need-mul-out Inv-loop2 μ-loop2 Inv-loop μ-loop
-mul-out c = search needs
+mul-out c = omega (arith, bound c)
 
 add-out : tie.Need-add-out Inv-loop2 μ-loop2 Inv-loop μ-loop
 add-out c = omega (arith, bound c)

@@ -1,21 +1,18 @@
+-- `bits::sets::all_below` meets its contract. Below 32, nothing is left of the set above c; from 32 on every set is below.
+-- Assumes nothing.
 use mathlib.Core.Path.{sym}
 use native.Mathlib.Omega.{arith}
-use Rattle.bits.specs.Sets.{below-shr, below-wider}
 use borrow.Author.Needs.{needs}
+use Rattle.bits.specs.Sets.{below-shr, below-wider}
 use Rattle.bits.proofs.sets.all_below.Statement.{statement}
 use Rattle.bits.proofs.sets.all_below.Tie as tie
-use Rattle.bits.proofs.sets.all_below.Reads as reads
-use Rattle.bits.proofs.sets.all_below.Lts as lts
 
--- src/sets.rt:44:18
 shr-result : tie.Need-shr-result
 shr-result c = search needs
 
--- src/sets.rt:41:1
 returns : tie.Need-returns
 returns c = below-shr (c .before .args .set) (c .before .args .c)
 
--- src/sets.rt:41:1
 returns-2 : tie.Need-returns-2
 returns-2 c = sym (below-wider (c .before .args .set) 32 (c .before .args .c) (omega arith) (omega arith))
 

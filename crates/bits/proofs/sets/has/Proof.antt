@@ -1,7 +1,8 @@
--- `bits::has` meets its contract. Assumes nothing.
+-- `bits::sets::has` meets its contract. The test is the definition of `bit`.
+-- Assumes nothing.
 use mathlib.Core.Path.{refl}
-use Rattle.bits.specs.Bit.{bit}
 use borrow.Author.Needs.{needs}
+use Rattle.bits.specs.Bit.{bit}
 use Rattle.bits.proofs.sets.has.Statement.{statement}
 use Rattle.bits.proofs.sets.has.Tie as tie
 

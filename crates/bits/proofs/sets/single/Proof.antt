@@ -1,6 +1,7 @@
--- `bits::single` meets its contract. Assumes nothing.
-use Rattle.bits.specs.Bit.{one-shl}
+-- `bits::sets::single` meets its contract. `1 << v` is 2 ^ v.
+-- Assumes nothing.
 use borrow.Author.Needs.{needs}
+use Rattle.bits.specs.Bit.{one-shl}
 use Rattle.bits.proofs.sets.single.Statement.{statement}
 use Rattle.bits.proofs.sets.single.Tie as tie
 

@@ -1,8 +1,9 @@
--- `bits::toggle` meets its contract. Assumes nothing.
+-- `bits::sets::toggle` meets its contract. `1 << v` is 2 ^ v, and the rest is the definition of `flipBit`.
+-- Assumes nothing.
 use mathlib.Core.Path.{ap}
+use borrow.Author.Needs.{needs}
 use lib.Bits.{bitXor}
 use Rattle.bits.specs.Bit.{flipBit, one-shl}
-use borrow.Author.Needs.{needs}
 use Rattle.bits.proofs.sets.toggle.Statement.{statement}
 use Rattle.bits.proofs.sets.toggle.Tie as tie
 

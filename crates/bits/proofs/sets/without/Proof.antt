@@ -1,9 +1,10 @@
--- `bits::without` meets its contract. Assumes nothing.
+-- `bits::sets::without` meets its contract. `1 << v` is 2 ^ v, and the rest is the definition of `clearBit`.
+-- Assumes nothing.
 use mathlib.Core.Path.{ap}
 use Prim.Native.Nat.{ℕ}
+use borrow.Author.Needs.{needs}
 use lib.Bits.{bitOr, bitXor}
 use Rattle.bits.specs.Bit.{clearBit, one-shl}
-use borrow.Author.Needs.{needs}
 use Rattle.bits.proofs.sets.without.Statement.{statement}
 use Rattle.bits.proofs.sets.without.Tie as tie
 

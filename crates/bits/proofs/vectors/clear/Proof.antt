@@ -1,11 +1,11 @@
--- `bits::clear` meets its contract. Assumes nothing.
-use mathlib.Core.Path.{_≡_, refl, ap, _∙_, sym}
-use Prim.Native.Nat.{ℕ, _-_}
+-- `bits::vectors::clear` meets its contract. The invariant: the words before i are 0. The measure is what is left of the words.
+-- Assumes nothing.
 use mathlib.Core.Bool.{false}
+use Prim.Native.Nat.{_-_}
+use borrow.Author.Needs.{needs}
 use lib.ListN.{length}
 use Rattle.bits.specs.Vec.{vec, wordOf, word-none}
-use Rattle.bits.specs.Tab.{tab, Filled, filled-none, filled-more, filled-all}
-use borrow.Author.Needs.{needs}
+use Rattle.bits.specs.Tab.{Filled, filled-none, filled-more, filled-all}
 use Rattle.bits.proofs.vectors.clear.Statement.{statement}
 use Rattle.bits.proofs.vectors.clear.Tie as tie
 
@@ -16,7 +16,7 @@ abbrev μ-loop : tie.MeasureT-loop
 μ-loop dst₀ i₀ dst i = length dst₀ - i
 
 loop-holds : tie.Need-loop-holds Inv-loop μ-loop
-loop-holds c = filled-none (wordOf (λ r. false)) (c .args .dst .now)
+loop-holds c = search filled-none
 
 mul-dst : tie.Need-mul-dst Inv-loop μ-loop
 mul-dst c = search needs
@@ -31,14 +31,14 @@ loop-less : tie.Need-loop-less Inv-loop μ-loop
 loop-less c = search needs
 
 loop-again : tie.Need-loop-again Inv-loop μ-loop
-loop-again c = filled-more (wordOf (λ r. false)) (c .before .loop .inv) (c .loop-test .taken) (word-none (c .before .loop .i))
+loop-again c = search (filled-more, word-none)
 
 same-length : tie.Need-same-length Inv-loop μ-loop
 same-length c = search needs
 
 returns : tie.Need-returns Inv-loop μ-loop
 unfolding vec
-returns c = filled-all (wordOf (λ r. false)) (c .before .loop .inv) (c .loop-test .left)
+returns c = search filled-all
 
 pub clear-spec : {M : Type 1} → statement M
 clear-spec =

@@ -1,11 +1,11 @@
--- `bits::copy` meets its contract. Assumes nothing.
+-- `bits::vectors::copy` meets its contract. The invariant: the words before i are those of `src`. The measure is what is left of the words.
+-- Assumes nothing.
 use mathlib.Core.List.{List}
-use Prim.Native.Nat.{ℕ}
-use mathlib.Core.Path.{_≡_, refl, ap, _∙_, sym}
+use mathlib.Core.Path.{ap, _∙_, sym}
 use Prim.Native.Nat.{ℕ, _-_}
+use borrow.Author.Needs.{needs}
 use lib.ListN.{length, getD}
 use Rattle.bits.specs.Tab.{tab, tab-self, Filled, filled-none, filled-more, filled-all}
-use borrow.Author.Needs.{needs}
 use Rattle.bits.proofs.vectors.copy.Statement.{statement}
 use Rattle.bits.proofs.vectors.copy.Tie as tie
 
@@ -16,7 +16,7 @@ abbrev μ-loop : tie.MeasureT-loop
 μ-loop dst₀ src i₀ dst i = length dst₀ - i
 
 loop-holds : tie.Need-loop-holds Inv-loop μ-loop
-loop-holds c = filled-none (λ k. getD (c .args .src .now) k 0) (c .args .dst .now)
+loop-holds c = search filled-none
 
 mul-dst : tie.Need-mul-dst Inv-loop μ-loop
 mul-dst c = search needs
@@ -37,7 +37,7 @@ loop-less : tie.Need-loop-less Inv-loop μ-loop
 loop-less c = search needs
 
 loop-again : tie.Need-loop-again Inv-loop μ-loop
-loop-again c = filled-more (λ k. getD (c .before .before .before .args .src .now) k 0) (c .before .before .loop .inv) (c .before .loop-test .taken) refl
+loop-again c = search filled-more
 
 same-length : tie.Need-same-length Inv-loop μ-loop
 same-length c = search needs
@@ -45,7 +45,8 @@ same-length c = search needs
 returns : tie.Need-returns Inv-loop μ-loop
 returns c =
     let src : List ℕ = c .before .before .args .src .now in
-    filled-all (λ k. getD src k 0) (c .before .loop .inv) (c .loop-test .left) ∙ ap (tab (λ k. getD src k 0)) (sym (c .before .before .pre)) ∙ tab-self src 0
+    let word : ℕ → ℕ = λ k. getD src k 0 in
+    filled-all word (c .before .loop .inv) (c .loop-test .left) ∙ ap (tab word) (sym (c .before .before .pre)) ∙ tab-self src 0
 
 pub copy-spec : {M : Type 1} → statement M
 copy-spec =

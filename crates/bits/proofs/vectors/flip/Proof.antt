@@ -1,9 +1,10 @@
--- `bits::flip` meets its contract. Assumes nothing.
+-- `bits::vectors::flip` meets its contract. `1 << k` is 2 ^ k, and the rest is the definition of `flipAt`.
+-- Assumes nothing.
 use Prim.Native.Nat.{_%_}
 use native.Mathlib.Omega.{arith}
+use borrow.Author.Needs.{needs}
 use Rattle.bits.specs.Bit.{flipBit, one-shl}
 use Rattle.bits.specs.Words.{flipAt}
-use borrow.Author.Needs.{needs}
 use Rattle.bits.proofs.vectors.flip.Statement.{statement}
 use Rattle.bits.proofs.vectors.flip.Tie as tie
 

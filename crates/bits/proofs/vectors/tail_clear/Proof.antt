@@ -1,42 +1,34 @@
+-- `bits::vectors::tail_clear` meets its contract. Past the words there is nothing to test; else `tail-words` takes the one word and those after it together.
+-- Assumes nothing.
 use mathlib.Core.Path.{sym, ap, _∙_}
 use mathlib.Core.Bool.{Bool, _&&_}
 use Prim.Native.Nat.{_/_, _%_, _^_}
 use native.Mathlib.Omega.{arith}
+use borrow.Author.Needs.{needs}
 use lib.Dec.{eqb}
 use lib.ListN.{getD}
 use Rattle.bits.specs.Tail.{tail-past, tail-words}
-use borrow.Author.Needs.{needs}
 use Rattle.bits.proofs.vectors.tail_clear.Statement.{statement}
 use Rattle.bits.proofs.vectors.tail_clear.Tie as tie
-use Rattle.bits.proofs.vectors.tail_clear.Reads as reads
-use Rattle.bits.proofs.vectors.tail_clear.Lts as lts
-use Rattle.bits.proofs.vectors.zero_from.Reads as zero-from-reads
 
--- src/vectors.rt:144:9
 returns : tie.Need-returns
 returns c = sym (tail-past (c .before .before .args .ws .now) (c .before .before .args .n) (omega arith))
 
--- src/vectors.rt:146:7
 mul-result : tie.Need-mul-result
 mul-result c = search needs
 
--- src/vectors.rt:146:7
 shared-slice-read-result : tie.Need-shared-slice-read-result
 shared-slice-read-result c = search needs
 
--- src/vectors.rt:146:7
 shr-result : tie.Need-shr-result
 shr-result c = search needs
 
--- src/vectors.rt:146:48
 add-zero-from : tie.Need-add-zero-from
 add-zero-from c = search needs
 
--- src/vectors.rt:146:34
 zero-from-requires : tie.Need-zero-from-requires
 zero-from-requires c κs = search needs
 
--- src/vectors.rt:139:1
 returns-2 : tie.Need-returns-2
 returns-2 c =
     let s = c .before .before .before .before .args in

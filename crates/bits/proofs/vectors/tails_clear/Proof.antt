@@ -1,40 +1,32 @@
+-- `bits::vectors::tails_clear` meets its contract. From row 2,048 on there is nothing to test; else `tails-words` takes the one word of all vectors and those after it together.
+-- Assumes nothing.
 use mathlib.Core.Path.{sym, ap₂, _∙_}
 use mathlib.Core.Bool.{Bool, _&&_}
 use Prim.Native.Nat.{ℕ, _/_, _%_, _^_}
 use native.Mathlib.Omega.{arith}
+use borrow.Author.Needs.{needs}
 use lib.Dec.{eqb}
 use Rattle.bits.specs.Vectors.{tails-past, tails-words}
-use borrow.Author.Needs.{needs}
 use Rattle.bits.proofs.vectors.tails_clear.Statement.{statement}
 use Rattle.bits.proofs.vectors.tails_clear.Tie as tie
-use Rattle.bits.proofs.vectors.tails_clear.Reads as reads
-use Rattle.bits.proofs.vectors.tails_clear.Lts as lts
-use Rattle.bits.proofs.vectors.word_of_all.Reads as word-of-all-reads
-use Rattle.bits.proofs.vectors.zero_in_all.Reads as zero-in-all-reads
 
--- src/vectors.rt:184:9
 returns : tie.Need-returns
 returns c =
     let s = c .before .before .args in
     sym (tails-past (s .words .now) (s .n) (s .row) (λ i. c .before .shared-slice-known .given i .fits) (omega arith) (omega arith))
 
--- src/vectors.rt:186:7
 word-of-all-requires : tie.Need-word-of-all-requires
 word-of-all-requires c κs = search needs
 
--- src/vectors.rt:186:7
 shr-result : tie.Need-shr-result
 shr-result c = search needs
 
--- src/vectors.rt:186:77
 add-zero-in-all : tie.Need-add-zero-in-all
 add-zero-in-all c = search needs
 
--- src/vectors.rt:186:55
 zero-in-all-requires : tie.Need-zero-in-all-requires
 zero-in-all-requires c κs = search needs
 
--- src/vectors.rt:178:1
 returns-2 : tie.Need-returns-2
 returns-2 c =
     let s = c .before .before .before .before .args in

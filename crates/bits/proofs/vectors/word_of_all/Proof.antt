@@ -1,14 +1,14 @@
+-- `bits::vectors::word_of_all` meets its contract. The invariant: `all` is the OR of word j of the first i vectors. The measure is what is left of the vectors.
+-- Assumes nothing.
 use mathlib.Core.Path.{_≡_, ap, _∙_}
-use Prim.Native.Nat.{ℕ, _+_, _-_, _*_, _≤_}
+use Prim.Native.Nat.{_+_, _-_, _*_, _≤_}
 use native.Mathlib.Omega.{arith}
-use lib.ListN.{length, getD}
-use Rattle.bits.specs.All.{orBelow, or-zero, or-more}
-use Rattle.bits.specs.Vectors.{wordOfAll}
 use borrow.Author.Needs.{needs}
+use lib.ListN.{getD}
+use Rattle.bits.specs.OrWords.{orBelow, or-zero, or-more}
+use Rattle.bits.specs.Vectors.{wordOfAll}
 use Rattle.bits.proofs.vectors.word_of_all.Statement.{statement}
 use Rattle.bits.proofs.vectors.word_of_all.Tie as tie
-use Rattle.bits.proofs.vectors.word_of_all.Reads as reads
-use Rattle.bits.proofs.vectors.word_of_all.Lts as lts
 
 abbrev Inv-loop : tie.InvT-loop
 Inv-loop words n j all₀ i₀ all i = (i ≤ n) × (all ≡ orBelow (λ k. getD words (32 * k + j) 0) i)
@@ -16,39 +16,30 @@ Inv-loop words n j all₀ i₀ all i = (i ≤ n) × (all ≡ orBelow (λ k. getD
 abbrev μ-loop : tie.MeasureT-loop
 μ-loop words n j all₀ i₀ all i = n - i
 
--- src/vectors.rt:156:5
 loop-holds : tie.Need-loop-holds Inv-loop μ-loop
 loop-holds c = (search needs, search or-zero)
 
--- src/vectors.rt:157:27
 mul-all : tie.Need-mul-all Inv-loop μ-loop
 mul-all c = search needs
 
--- src/vectors.rt:157:27
 add-all : tie.Need-add-all Inv-loop μ-loop
 add-all c = search needs
 
--- src/vectors.rt:157:21
 mul-all-2 : tie.Need-mul-all-2 Inv-loop μ-loop
 mul-all-2 c = search needs
 
--- src/vectors.rt:157:21
 shared-slice-read-all : tie.Need-shared-slice-read-all Inv-loop μ-loop
 shared-slice-read-all c = search needs
 
--- src/vectors.rt:158:9
 add-i : tie.Need-add-i Inv-loop μ-loop
 add-i c = search needs
 
--- src/vectors.rt:156:5
 loop-less : tie.Need-loop-less Inv-loop μ-loop
 loop-less c = search needs
 
--- src/vectors.rt:156:5
 loop-again : tie.Need-loop-again Inv-loop μ-loop
 loop-again c = (search needs, search or-more)
 
--- src/vectors.rt:150:1
 returns : tie.Need-returns Inv-loop μ-loop
 unfolding wordOfAll
 returns c =

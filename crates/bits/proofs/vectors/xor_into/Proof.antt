@@ -1,11 +1,11 @@
--- `bits::xor_into` meets its contract. Assumes nothing.
-use mathlib.Core.Path.{_≡_, refl, ap, _∙_, sym}
+-- `bits::vectors::xor_into` meets its contract. The invariant: the words before i are those of `xorWords`. The measure is what is left of the words.
+-- Assumes nothing.
+use mathlib.Core.Path.{ap, _∙_, sym}
 use Prim.Native.Nat.{_-_}
-use native.Mathlib.Omega.{arith}
+use borrow.Author.Needs.{needs}
 use lib.ListN.{length}
 use Rattle.bits.specs.Words.{xorWords, xorAt}
 use Rattle.bits.specs.Tab.{tab, Filled, filled-none, filled-more, filled-all}
-use borrow.Author.Needs.{needs}
 use Rattle.bits.proofs.vectors.xor_into.Statement.{statement}
 use Rattle.bits.proofs.vectors.xor_into.Tie as tie
 
@@ -16,7 +16,7 @@ abbrev μ-loop : tie.MeasureT-loop
 μ-loop dst₀ a mask i₀ dst i = length dst₀ - i
 
 loop-holds : tie.Need-loop-holds Inv-loop μ-loop
-loop-holds c = filled-none (xorAt (c .args .a .now) (c .args .mask .now)) (c .args .dst .now)
+loop-holds c = search filled-none
 
 mul-dst : tie.Need-mul-dst Inv-loop μ-loop
 mul-dst c = search needs
@@ -43,14 +43,16 @@ loop-less : tie.Need-loop-less Inv-loop μ-loop
 loop-less c = search needs
 
 loop-again : tie.Need-loop-again Inv-loop μ-loop
-loop-again c = let s = c .before .before .before .before .args in filled-more (xorAt (s .a .now) (s .mask .now)) (c .before .before .before .loop .inv) (c .before .before .loop-test .taken) refl
+loop-again c = search filled-more
 
 same-length : tie.Need-same-length Inv-loop μ-loop
 same-length c = search needs
 
 returns : tie.Need-returns Inv-loop μ-loop
 unfolding xorWords
-returns c = let s = c .before .before .args in filled-all (xorAt (s .a .now) (s .mask .now)) (c .before .loop .inv) (c .loop-test .left) ∙ ap (tab (xorAt (s .a .now) (s .mask .now))) (sym (c .before .before .pre .0))
+returns c =
+    let word = xorAt (c .before .before .args .a .now) (c .before .before .args .mask .now) in
+    filled-all word (c .before .loop .inv) (c .loop-test .left) ∙ ap (tab word) (sym (c .before .before .pre .0))
 
 pub xor-into-spec : {M : Type 1} → statement M
 xor-into-spec =

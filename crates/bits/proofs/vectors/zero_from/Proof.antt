@@ -1,15 +1,15 @@
+-- `bits::vectors::zero_from` meets its contract. The invariant: `all` is the OR of the words from `from` to i. The measure is what is left of the words.
+-- Assumes nothing.
 use mathlib.Core.Path.{_≡_, ap, _∙_}
 use Prim.Native.Nat.{ℕ, _-_, _≤_}
 use native.Mathlib.Omega.{arith}
+use borrow.Author.Needs.{needs}
 use lib.Dec.{eqb}
 use lib.ListN.{length, getD}
-use Rattle.bits.specs.All.{orFrom, from-none, from-more, from-all}
+use Rattle.bits.specs.OrWords.{orFrom, from-none, from-more, from-all}
 use Rattle.bits.specs.Tail.{zerosFrom}
-use borrow.Author.Needs.{needs}
 use Rattle.bits.proofs.vectors.zero_from.Statement.{statement}
 use Rattle.bits.proofs.vectors.zero_from.Tie as tie
-use Rattle.bits.proofs.vectors.zero_from.Reads as reads
-use Rattle.bits.proofs.vectors.zero_from.Lts as lts
 
 abbrev Inv-loop : tie.InvT-loop
 Inv-loop ws from all₀ i₀ all i = (from ≤ i) × (i ≤ length ws) × (all ≡ orFrom (λ k. getD ws k 0) from i)
@@ -17,34 +17,27 @@ Inv-loop ws from all₀ i₀ all i = (from ≤ i) × (i ≤ length ws) × (all �
 abbrev μ-loop : tie.MeasureT-loop
 μ-loop ws from all₀ i₀ all i = length ws - i
 
--- src/vectors.rt:131:5
 loop-holds : tie.Need-loop-holds Inv-loop μ-loop
 loop-holds c = (search needs, search needs, search from-none)
 
--- src/vectors.rt:132:21
 mul-all : tie.Need-mul-all Inv-loop μ-loop
 mul-all c = search needs
 
--- src/vectors.rt:132:21
 shared-slice-read-all : tie.Need-shared-slice-read-all Inv-loop μ-loop
 shared-slice-read-all c = search needs
 
--- src/vectors.rt:133:9
 add-i : tie.Need-add-i Inv-loop μ-loop
 add-i c = search needs
 
--- src/vectors.rt:131:5
 loop-less : tie.Need-loop-less Inv-loop μ-loop
 loop-less c = search needs
 
--- src/vectors.rt:131:5
 loop-again : tie.Need-loop-again Inv-loop μ-loop
 loop-again c =
     let s = c .before .before .before .args in
     let l = c .before .before .loop in
     (search needs, search needs, from-more (λ k. getD (s .ws .now) k 0) (s .from) (l .i) (l .all) (l .inv .0) (l .inv .2))
 
--- src/vectors.rt:125:1
 returns : tie.Need-returns Inv-loop μ-loop
 unfolding zerosFrom
 returns c =
