@@ -1,0 +1,9 @@
+pub mod Cells
+pub mod Clock
+pub mod Sessions
+pub mod Refusals
+pub mod Stores
+pub mod Stretch
+pub mod Meaning
+pub mod Room
+pub mod Damage

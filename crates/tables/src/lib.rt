@@ -1,0 +1,40 @@
+// The lent tables: the three counts as types, the clock record, a session, and where each number lies in the cells.
+// No table is indexed outside these functions and the damage check. Assumes nothing.
+mod cells;
+mod clock;
+mod counts;
+mod refusal;
+mod session;
+
+pub use cells::change_row;
+pub use cells::change_set;
+pub use cells::end_at;
+pub use cells::head_of;
+pub use cells::put_change;
+pub use cells::put_head;
+pub use cells::put_record;
+pub use cells::put_slot;
+pub use cells::rows_at;
+pub use cells::slot_link;
+pub use cells::slot_stamp;
+pub use cells::slot_value;
+pub use clock::Clock;
+pub use clock::advanced;
+pub use clock::changes_used;
+pub use clock::clock_lent;
+pub use clock::clock_of;
+pub use clock::put_changes_used;
+pub use clock::put_clock;
+pub use clock::put_moment;
+pub use clock::put_slots_used;
+pub use clock::slots_used;
+pub use counts::Row;
+pub use counts::Stamp;
+pub use counts::Value;
+pub use refusal::Refusal;
+pub use refusal::number;
+pub use session::NEW;
+pub use session::Session;
+pub use session::free_session;
+pub use session::opened_session;
+pub use session::with_entry;
