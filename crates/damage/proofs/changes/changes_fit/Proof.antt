@@ -1,0 +1,53 @@
+-- `changes_fit` meets its contract: all sets at once, all rows at once, and else the rows of each record.
+-- Assumes nothing.
+use native.Mathlib.Omega.{arith}
+use borrow.Author.Needs.{needs}
+use Rattle.damage.proofs.ClockLaws.{low-stamp, low-changes}
+use Rattle.damage.proofs.ChangeLaws.{ends-low, bad-sets, low-rows, each-rows}
+use Rattle.damage.proofs.changes.changes_fit.Statement.{statement}
+use Rattle.damage.proofs.changes.changes_fit.Tie as tie
+
+clock-of-requires : tie.Need-clock-of-requires
+clock-of-requires c κs = search needs
+
+changes-used-requires : tie.Need-changes-used-requires
+changes-used-requires c κs = search needs
+
+wide-requires : tie.Need-wide-requires
+wide-requires c κs = search needs
+
+sets-of-requires : tie.Need-sets-of-requires
+sets-of-requires c κs = (search low-changes, omega arith)
+
+all-below-requires : tie.Need-all-below-requires
+all-below-requires c κs = search needs
+
+returns : tie.Need-returns
+returns c = search bad-sets
+
+rows-below-requires : tie.Need-rows-below-requires
+rows-below-requires c κs = (search low-changes, omega arith)
+
+returns-2 : tie.Need-returns-2
+returns-2 c = search low-rows
+
+each-rows-fit-requires : tie.Need-each-rows-fit-requires
+each-rows-fit-requires c κs = (search low-stamp, omega arith, omega arith, search ends-low)
+
+returns-3 : tie.Need-returns-3
+returns-3 c = search each-rows
+
+pub changes-fit-spec : {M : Type 1} → statement M
+changes-fit-spec =
+    tie.close
+    (tie.spec
+    clock-of-requires
+    changes-used-requires
+    wide-requires
+    sets-of-requires
+    all-below-requires
+    returns
+    rows-below-requires
+    returns-2
+    each-rows-fit-requires
+    returns-3)

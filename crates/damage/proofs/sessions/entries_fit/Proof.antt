@@ -1,0 +1,48 @@
+-- `entries_fit` meets its contract: the limits, each entry, and that each row is listed once.
+-- Assumes nothing.
+use native.Mathlib.Omega.{arith}
+use borrow.Author.Needs.{needs}
+use Rattle.damage.proofs.EntryLaws.{long-list, many-rows, many-values, bad-entry, rows-in-vector, short-list, once-decides}
+use Rattle.damage.proofs.sessions.entries_fit.Statement.{statement}
+use Rattle.damage.proofs.sessions.entries_fit.Tie as tie
+
+returns : tie.Need-returns
+returns c = search long-list
+
+returns-2 : tie.Need-returns-2
+returns-2 c = search many-rows
+
+returns-3 : tie.Need-returns-3
+returns-3 c = search many-values
+
+wide-requires : tie.Need-wide-requires
+wide-requires c κs = search needs
+
+list-fits-requires : tie.Need-list-fits-requires
+list-fits-requires c κs = search needs
+
+returns-4 : tie.Need-returns-4
+returns-4 c = search bad-entry
+
+returns-5 : tie.Need-returns-5
+returns-5 c = search short-list
+
+listed-once-requires : tie.Need-listed-once-requires
+listed-once-requires c κs = (omega arith, search rows-in-vector)
+
+returns-6 : tie.Need-returns-6
+returns-6 c = search once-decides
+
+pub entries-fit-spec : {M : Type 1} → statement M
+entries-fit-spec =
+    tie.close
+    (tie.spec
+    returns
+    returns-2
+    returns-3
+    wide-requires
+    list-fits-requires
+    returns-4
+    returns-5
+    listed-once-requires
+    returns-6)

@@ -1,0 +1,11 @@
+-- The laws on what the log and the versions say that belong to no one function.
+-- Assumes nothing.
+pub mod VersionLaws
+pub mod LastLaws
+pub mod FlipLaws
+pub mod QueryLaws
+pub mod ReadLaws
+pub mod Meets
+pub mod Shown
+pub mod Ready
+pub mod Kept

@@ -1,0 +1,47 @@
+-- `history::blocks_before` meets its contract. The invariant: what names the row last up to `to` does so up to e.
+-- Assumes nothing.
+use mathlib.Core.Path.{_≡_, refl}
+use Prim.Native.Nat.{_≤_}
+use native.Mathlib.Omega.{arith}
+use borrow.Author.Needs.{needs}
+use Rattle.history.specs.Last.{lastPlace}
+use Rattle.history.proofs.LastLaws.{block-past}
+use Rattle.history.proofs.changes.blocks_before.Statement.{statement}
+use Rattle.history.proofs.changes.blocks_before.Tie as tie
+
+abbrev Inv-loop : tie.InvT-loop
+Inv-loop changes to row e₀ e = (e ≤ to) × (lastPlace changes row to ≡ lastPlace changes row e)
+
+abbrev μ-loop : tie.MeasureT-loop
+μ-loop changes to row e₀ e = e
+
+loop-holds : tie.Need-loop-holds Inv-loop μ-loop
+loop-holds c = (omega arith, refl)
+
+block-names-requires : tie.Need-block-names-requires Inv-loop μ-loop
+block-names-requires c κs = omega arith
+
+returns : tie.Need-returns Inv-loop μ-loop
+returns c = search needs
+
+loop-less : tie.Need-loop-less Inv-loop μ-loop
+loop-less c = omega arith
+
+loop-again : tie.Need-loop-again Inv-loop μ-loop
+loop-again c = (omega arith, search block-past)
+
+returns-2 : tie.Need-returns-2 Inv-loop μ-loop
+returns-2 c = search needs
+
+pub blocks-before-spec : {M : Type 1} → statement M
+blocks-before-spec =
+    tie.close
+    (tie.spec
+    Inv-loop
+    μ-loop
+    loop-holds
+    block-names-requires
+    returns
+    loop-less
+    loop-again
+    returns-2)

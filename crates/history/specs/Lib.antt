@@ -1,0 +1,7 @@
+-- What the contracts of this crate cite.
+-- Assumes nothing.
+pub mod Version
+pub mod Last
+pub mod Flips
+pub mod Query
+pub mod Read
