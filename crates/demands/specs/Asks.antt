@@ -1,0 +1,85 @@
+-- A call as it is made on lent tables, what it comes to, and what its caller is told: by the ten definitions that the outer
+-- calls' contracts cite, and by nothing else. Assumes nothing.
+use mathlib.Core.List.{List, [], _∷_}
+use Prim.Native.Nat.{ℕ}
+use lib.ListN.{length}
+use Rattle.rules.specs.Calls.{Call, Answer}
+use Rattle.rules.specs.Calls as rules
+use Rattle.tables.specs.Cells.{Tables}
+use Rattle.index.specs.Outcome.{Outcome}
+use Rattle.index.specs.Calls.{createOf, beginOf, readOf, updateOf, deleteOf, insertOf, commitOf, tidyOf, abortOf, columnOf}
+use Rattle.index.specs.Query.{QueryOutcome, queryOutcome, queryOf}
+use Rattle.follow.proofs.Follows.{heardWith}
+use Rattle.follow.proofs.Query.{rowsPicked}
+
+-- a call with its arguments: session, then row, then value, where it has them
+pub data Ask : Type 0 where
+  -- C and the column's bytes
+  create : ℕ → List ℕ → Ask
+  begin : ℕ → Ask
+  -- the lent scratch, session, value, the threshold of `due`
+  query : List ℕ → ℕ → ℕ → ℕ → Ask
+  read : ℕ → ℕ → Ask
+  update : ℕ → ℕ → ℕ → Ask
+  delete : ℕ → ℕ → Ask
+  insert : ℕ → ℕ → Ask
+  commit : ℕ → Ask
+  tidy : ℕ → ℕ → Ask
+  abort : ℕ → Ask
+
+-- the rules' call
+abbrev pub callOf : Ask → Call
+callOf (create C col) = rules.create C (columnOf col)
+callOf (begin n) = rules.begin n
+callOf (query scratch n v threshold) = rules.query n v threshold (length scratch)
+callOf (read n r) = rules.read n r
+callOf (update n r v) = rules.update n r v
+callOf (delete n r) = rules.delete n r
+callOf (insert n v) = rules.insert n v
+callOf (commit n) = rules.commit n
+callOf (tidy n v) = rules.tidy n v
+callOf (abort n) = rules.abort n
+
+-- the scratch that is lent: only query has one
+abbrev pub scratchOf : Ask → List ℕ
+scratchOf (create C col) = []
+scratchOf (begin n) = []
+scratchOf (query scratch n v threshold) = scratch
+scratchOf (read n r) = []
+scratchOf (update n r v) = []
+scratchOf (delete n r) = []
+scratchOf (insert n v) = []
+scratchOf (commit n) = []
+scratchOf (tidy n v) = []
+scratchOf (abort n) = []
+
+-- what a call comes to that is lent no scratch
+abbrev pub unlent : Outcome → QueryOutcome
+unlent o = queryOutcome (o .after) [] (o .answer)
+
+-- what a call comes to: the tables afterwards, the scratch afterwards, and the answer
+abbrev pub comesTo : Tables → Ask → QueryOutcome
+comesTo t (create C col) = unlent (createOf t C col)
+comesTo t (begin n) = unlent (beginOf t n)
+comesTo t (query scratch n v threshold) = queryOf t scratch n v threshold
+comesTo t (read n r) = unlent (readOf t n r)
+comesTo t (update n r v) = unlent (updateOf t n r v)
+comesTo t (delete n r) = unlent (deleteOf t n r)
+comesTo t (insert n v) = unlent (insertOf t n v)
+comesTo t (commit n) = unlent (commitOf t n)
+comesTo t (tidy n v) = unlent (tidyOf t n v)
+comesTo t (abort n) = unlent (abortOf t n)
+
+-- what the caller is told: the answer, of a query with the rows of the words that the picker then returns
+abbrev pub told : Tables → Ask → Answer
+told t a = let o = comesTo t a in heardWith (rowsPicked (o .after) o) (o .answer)
+
+-- a run of calls, each on the tables that the one before it left: the tables at its end
+abbrev pub tablesAfter : Tables → List Ask → Tables
+tablesAfter t [] = t
+tablesAfter t (a ∷ asks) = tablesAfter (comesTo t a .after) asks
+
+-- and its transcript
+abbrev pub transcriptOf : Tables → List Ask → List (Call × Answer)
+transcriptOf t [] = []
+transcriptOf t (a ∷ asks) = (callOf a, told t a) ∷ transcriptOf (comesTo t a .after) asks

@@ -1,0 +1,172 @@
+-- Create follows the rules, from any tables with room, damaged or not.
+-- Assumes nothing.
+use mathlib.Core.Path.{_≡_, refl, sym, ap, ap₂, _∙_}
+use mathlib.Core.Bool.{Bool, true, false, cond, _&&_, _||_, true≢false}
+use mathlib.Core.Option.{Option, none, some}
+use mathlib.Core.List.{List, [], _∷_, map}
+use mathlib.Core.Logic.{_⊎_, ⊎-elim}
+use Prim.Native.Nat.{ℕ, _+_, _*_, _/_, _%_, _≤_, _<_}
+use native.Mathlib.Omega.{arith}
+use borrow.Author.Tests.{ne-eqb, eqb-false, lt-ltb, le-ltb, ltb-false}
+use lib.Dec.{eqb, ltb}
+use lib.ListN.{length, getD, take, drop, replicate, length-map, length-replicate, length-drop, List·getD-append, List·getD-map}
+use lib.Seq.{take-append-le, drop-append-le}
+use Rattle.bits.specs.Cases.{eq-cases, lt-cases}
+use Rattle.bits.specs.Tab.{tab, over, length-over, length-tab, getD-tab}
+use Rattle.bits.specs.Part.{part}
+use Rattle.bits.specs.Vec.{vec, length-vec, bitAt-vec}
+use Rattle.bits.specs.Vectors.{vectorAt, vectorAt-vec}
+use Rattle.bits.specs.Words.{bitAt, bitAt-above}
+use Rattle.bits.specs.Column.{holdsAt, columnBit, valueOf, value-none, value-some}
+use Rattle.rules.specs.Limits.{maxValues, maxRows}
+use Rattle.rules.specs.Calls.{cell, holds, create}
+use Rattle.rules.specs.Refusals.{someOutside, badColumn, tests}
+use Rattle.rules.specs.Step.{created, effect, step}
+use Rattle.rules.proofs.Small.{or-parts}
+use Rattle.tables.specs.Cells.{Tables, slotWords}
+use Rattle.tables.specs.Meaning.{meaning}
+use Rattle.tables.specs.Room.{roomy}
+use Rattle.tables.proofs.Facts.{Room, room-facts}
+use Rattle.lent.specs.Places.{length-freed-all, freed-all-at}
+use Rattle.index.specs.Said.{numbers}
+use Rattle.index.specs.Outcome.{Outcome, outcome, refusalOfCreate, unless}
+use Rattle.index.specs.Calls.{below, createdTables, columnOf, createOf}
+use Rattle.follow.proofs.Good.{Good}
+use Rattle.follow.proofs.Follows.{heard, Follows}
+use Rattle.follow.proofs.Fresh.{Fresh, past-absent, fresh-means, fresh-good}
+
+-- ---- the cells that create leaves
+
+-- a cell among those stored
+over-at : (g : ℕ → ℕ) (n i : ℕ) (d : List ℕ) → i < n → getD (over (tab g n) d) i 0 ≡ g i
+over-at g n i d h =
+    List·getD-append (tab g n) (drop (length (tab g n)) d) 0 i (omega (arith, length-tab g n)) ∙ getD-tab g n i 0 h
+
+below-yes : (c i : ℕ) → i < c → below c i ≡ i
+below-yes c i h = ap (λ (b : Bool). cond b i 0) (lt-ltb i c h)
+
+below-no : (c i : ℕ) → c ≤ i → below c i ≡ 0
+below-no c i h = ap (λ (b : Bool). cond b i 0) (le-ltb i c h)
+
+-- a part of what is stored
+over-part : (l d : List ℕ) (a n : ℕ) → a + n ≤ length l → part a n (over l d) ≡ part a n l
+unfolding part
+over-part l d a n h =
+    let q : n ≤ length (drop a l) = omega (arith, length-drop a l) in
+    ap (take n) (drop-append-le a l (drop (length l) d) (omega arith)) ∙ take-append-le n (drop a l) (drop (length l) d) q
+
+-- the rows that hold a value
+holds-means : (col : List ℕ) (v r : ℕ) → v < 255 → holdsAt col v r ≡ holds (cell (columnOf col) r) v
+holds-means col v r h =
+    one (getD col r 255) (eq-cases (getD col r 255) 255)
+    ∙ ap (λ (o : Option ℕ). holds o v) (sym (ap (getD (map valueOf col) r) (sym value-none) ∙ List·getD-map valueOf col r 255))
+  where
+    one : (b : ℕ) → (b ≡ 255) ⊎ (b ≡ 255 → ⊥) → eqb b v ≡ holds (valueOf b) v
+    one b s =
+        ⊎-elim (λ (e : b ≡ 255). ne-eqb b v (λ q. omega arith) ∙ sym (ap (λ (x : ℕ). holds (valueOf x) v) e ∙ ap (λ (o : Option ℕ). holds o v) value-none))
+        (λ (d : b ≡ 255 → ⊥). sym (ap (λ (o : Option ℕ). holds o v) (value-some b d))) s
+
+-- the vector of a value, of n words
+module _ (col d : List ℕ) (n v : ℕ) (l : v < 32) (few : length col ≤ 2048) (h : 32 * v + 32 ≤ n) where
+  words-fresh : slotWords (over (vec (columnBit col) n) d) v ≡ vec (λ r. columnBit col (2048 * v + r)) 32
+  unfolding slotWords vectorAt part
+  words-fresh = over-part (vec (columnBit col) n) d (32 * v) 32 (omega (arith, length-vec (columnBit col) n)) ∙ vectorAt-vec (columnBit col) n v h
+
+  vector-fresh : (r : ℕ) → bitAt (slotWords (over (vec (columnBit col) n) d) v) r ≡ holds (cell (columnOf col) r) v
+  unfolding columnBit
+  vector-fresh r =
+      ap (λ (w : List ℕ). bitAt w r) words-fresh
+      ∙ ⊎-elim
+      (λ (m : r < 2048).
+      let q : (2048 * v + r) / 2048 ≡ v = omega arith in
+      let k : (2048 * v + r) % 2048 ≡ r = omega arith in
+      bitAt-vec (λ r. columnBit col (2048 * v + r)) 32 r m ∙ ap₂ (λ (x y : ℕ). ltb x 32 && holdsAt col x y) q k
+      ∙ ap (λ (b : Bool). b && holdsAt col v r) (lt-ltb v 32 l) ∙ holds-means col v r (omega arith))
+      (λ (m : 2048 ≤ r).
+      bitAt-above (vec (λ r. columnBit col (2048 * v + r)) 32) r (omega (arith, length-vec (λ r. columnBit col (2048 * v + r)) 32))
+      ∙ sym (past-absent (columnOf col) v r (omega (arith, length-map col valueOf)))) (lt-cases r 2048)
+
+module _ (t : Tables) (room : Room t) (c : ℕ) (col : List ℕ) where
+  abbrev after : Tables
+  after = createdTables t c col
+
+  created-fresh : c ≤ 32 → length col ≤ 2048 → Fresh after c (columnOf col)
+  created-fresh high few = record {
+    values-are = refl;
+    first-are = sym (length-map col valueOf);
+    stamp-is = refl;
+    rows-are = sym (length-map col valueOf);
+    slots-are = refl;
+    changes-are = refl;
+    value-is = λ v l. over-at (below c) 288 v (t .slots) (omega arith) ∙ below-yes c v l;
+    stamp-zero = λ v l. over-at (below c) 288 (96 + v) (t .slots) (omega arith) ∙ below-no c (96 + v) (omega arith);
+    link-zero = λ v l. over-at (below c) 288 (192 + v) (t .slots) (omega arith) ∙ below-no c (192 + v) (omega arith);
+    head-is = λ v l. over-at (below c) 32 v (t .heads) (omega arith) ∙ below-yes c v l;
+    vector-is = λ v l. vector-fresh col (t .words) 3072 v (omega arith) few (omega arith);
+    sessions-free = λ i l. freed-all-at (t .sessions) i l;
+  }
+
+  stays : (l d : List ℕ) (n : ℕ) → length l ≡ n → n ≤ length d → n ≤ length (over l d)
+  stays l d n e h = omega (arith, length-over l d (omega arith))
+
+  created-room : Room after
+  created-room = record {
+    clock-room = stays (c ∷ length col ∷ 0 ∷ length col ∷ c ∷ 0 ∷ []) (t .clock) 6 refl (room .clock-room);
+    slots-room = stays (tab (below c) 288) (t .slots) 288 (length-tab (below c) 288) (room .slots-room);
+    words-room = stays (vec (columnBit col) 3072) (t .words) 3072 (length-vec (columnBit col) 3072) (room .words-room);
+    heads-room = stays (tab (below c) 32) (t .heads) 32 (length-tab (below c) 32) (room .heads-room);
+    log-room = stays (replicate 2048 0) (t .log) 2048 (length-replicate {A = ℕ} 2048 0) (room .log-room);
+    changes-room = stays (replicate 4096 0) (t .changes) 4096 (length-replicate {A = ℕ} 4096 0) (room .changes-room);
+    sessions-room = omega (arith, length-freed-all (t .sessions), room .sessions-room);
+  }
+
+  -- 3 fails: the tables are made of the column
+  made : badColumn c (columnOf col) ≡ false → (meaning after ≡ created c (columnOf col)) × Good after
+  unfolding badColumn maxValues maxRows
+  made e =
+      let p = or-parts (eqb c 0 || ltb 32 c || ltb 2048 (length (columnOf col))) (someOutside c (columnOf col)) e in
+      let q = or-parts (eqb c 0 || ltb 32 c) (ltb 2048 (length (columnOf col))) (p .0) in
+      let s = or-parts (eqb c 0) (ltb 32 c) (q .0) in
+      let low : c ≡ 0 → ⊥ = eqb-false c 0 (s .0) in
+      let high : c ≤ 32 = ltb-false 32 c (s .1) in
+      let few : length (columnOf col) ≤ 2048 = ltb-false 2048 (length (columnOf col)) (q .1) in
+      let f = created-fresh high (omega (arith, length-map col valueOf)) in
+      (fresh-means after c (columnOf col) f, fresh-good after c (columnOf col) f created-room (omega arith) high few)
+
+-- ---- the call
+
+-- on tables with room, damaged or not: the rules' next state and answer; where the column is accepted, the first state of the
+-- rules and good tables, and where it is not, the tables as they were
+pub record Creates (t : Tables) (c : ℕ) (col : List ℕ) (o : Outcome) : Type 0 where
+  pub same-state : meaning (o .after) ≡ step (meaning t) (create c (columnOf col)) .0
+  pub same-answer : heard (o .answer) ≡ step (meaning t) (create c (columnOf col)) .1
+  pub accepted : badColumn c (columnOf col) ≡ false → (meaning (o .after) ≡ created c (columnOf col)) × Good (o .after)
+  pub refused : badColumn c (columnOf col) ≡ true → o .after ≡ t
+
+pub create-creates : (t : Tables) → roomy t ≡ true → (c : ℕ) (col : List ℕ) → Creates t c col (createOf t c col)
+unfolding createOf refusalOfCreate unless step tests effect
+create-creates t r c col = rw r (go (badColumn c (columnOf col)) refl)
+  where
+    o : Outcome
+    o = outcome (createdTables t c col) (numbers (length col ∷ []))
+
+    go : (b : Bool) → badColumn c (columnOf col) ≡ b → Creates t c col (unless (cond b (some 3) none) t o)
+    go false e =
+        let m = made t (room-facts t r) c col e in
+        record {
+          same-state = m .0 ∙ rw e;
+          same-answer = rw (e, length-map col valueOf);
+          accepted = λ q. m;
+          refused = λ q. absurd (true≢false (sym q ∙ e));
+        }
+    go true e = record { same-state = rw e; same-answer = rw e; accepted = λ q. absurd (true≢false (sym e ∙ q)); refused = λ q. refl }
+
+pub create-follows : (t : Tables) → Good t → (c : ℕ) (col : List ℕ) → Follows t (create c (columnOf col)) (createOf t c col)
+create-follows t g c col = go (badColumn c (columnOf col)) refl
+  where
+    m : Creates t c col (createOf t c col)
+    m = create-creates t (g .room) c col
+
+    go : (b : Bool) → badColumn c (columnOf col) ≡ b → Follows t (create c (columnOf col)) (createOf t c col)
+    go false e = record { same-state = m .same-state; same-answer = m .same-answer; stays-good = m .accepted e .1 }
+    go true e = record { same-state = m .same-state; same-answer = m .same-answer; stays-good = rw (m .refused e) g }

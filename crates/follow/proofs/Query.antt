@@ -1,0 +1,143 @@
+-- Query follows the rules: the tables stay, and the words that the picker returns show exactly the rules' rows.
+-- Assumes nothing.
+use mathlib.Core.Path.{_≡_, refl, sym, ap, _∙_}
+use mathlib.Core.Bool.{Bool, false, cond}
+use mathlib.Core.Option.{Option, none, some}
+use mathlib.Core.List.{List, []}
+use mathlib.Core.Logic.{_⊎_, inl, inr}
+use Prim.Native.Nat.{ℕ, zero-le, _+_, _*_, _≤_, _<_}
+use native.Mathlib.Omega.{arith}
+use borrow.Author.Tests.{eq-eqb, ne-eqb, lt-ltb, le-leb, le-ltb, ltb-false}
+use lib.Dec.{ltb}
+use lib.ListN.{length, take, drop}
+use lib.Seq.{take-at}
+use Rattle.bits.specs.Bit.{xorb}
+use Rattle.bits.specs.Cases.{eq-cases}
+use Rattle.bits.specs.Rows.{rowsBelow, rowsOf, rows-ext, count-none}
+use Rattle.bits.specs.Tab.{over, length-over}
+use Rattle.bits.specs.Vec.{vec, length-vec}
+use Rattle.bits.specs.VecOps.{rowsOf-vec}
+use Rattle.bits.specs.Words.{bitAt}
+use Rattle.rules.specs.Limits.{maxRows, vectorWords}
+use Rattle.rules.specs.State.{session, startOf, chain}
+use Rattle.rules.specs.Versions.{versionAt, flipped, queried, queriedRows}
+use Rattle.rules.specs.Calls.{Call, query, listed}
+use Rattle.rules.specs.Refusals.{tests, refusal}
+use Rattle.rules.specs.Step.{querying, effect, step}
+use Rattle.rules.proofs.Small.{xorb-false}
+use Rattle.tables.specs.Cells.{Tables, valuesIn, slotWords}
+use Rattle.tables.specs.Meaning.{meaning}
+use Rattle.tables.proofs.Facts.{clock-limits}
+use Rattle.tables.proofs.Slots.{length-slotWords}
+use Rattle.tables.proofs.Tests.{and-both}
+use Rattle.history.specs.Version.{slotSeen}
+use Rattle.history.proofs.Meets.{seen-used, vector-meets}
+use Rattle.index.specs.Said.{words}
+use Rattle.index.specs.Query.{QueryOutcome, rowsSeen, flipsSeen, asked, unlessAsked, queryOf, pickedFrom}
+use Rattle.follow.proofs.Good.{Good, good-room, good-parts}
+use Rattle.follow.proofs.Follows.{heardWith, refusal-is, accepted}
+use Rattle.follow.proofs.Seated.{value-low}
+
+-- the rows of the words that the picker returns afterwards
+abbrev pub rowsPicked : Tables → QueryOutcome → Option ℕ → List ℕ
+rowsPicked t o place = rowsOf (pickedFrom (t .words) (o .scratch) place)
+
+-- the tables stay as they were; the rules' answer has the flip count, whether a tidy is due, and the rows of the words picked
+pub record QueryFollows (t : Tables) (c : Call) (o : QueryOutcome) : Type 0 where
+  pub same-tables : o .after ≡ t
+  pub same-state : meaning (o .after) ≡ step (meaning t) c .0
+  pub same-answer : heardWith (rowsPicked t o) (o .answer) ≡ step (meaning t) c .1
+  pub stays-good : Good (o .after)
+
+-- ---- the words picked
+
+-- a slot's own
+slot-picked : (ws scratch : List ℕ) (i : ℕ) → i < 96 → 3072 ≤ length ws → pickedFrom ws scratch (some i) ≡ slotWords ws i
+unfolding pickedFrom slotWords
+slot-picked ws scratch i l room =
+    ap (λ (b : Bool). cond b (take 32 (drop (32 * i) ws)) [])
+    (and-both _ _ (lt-ltb i 96 l) (le-leb (32 * i + 32) (length ws) (omega arith)))
+
+-- the scratch's first 32, filled
+scratch-picked : (ws scratch : List ℕ) (f : ℕ → Bool) → 32 ≤ length scratch → pickedFrom ws (over (vec f 32) scratch) none ≡ vec f 32
+unfolding pickedFrom
+scratch-picked ws scratch f room =
+    let n : length (vec f 32) ≡ 32 = length-vec f 32 in
+    let l : length (over (vec f 32) scratch) ≡ length scratch = length-over (vec f 32) scratch (omega arith) in
+    ap (λ (b : Bool). cond b (take 32 (over (vec f 32) scratch)) []) (le-leb 32 (length (over (vec f 32) scratch)) (omega arith))
+    ∙ take-at (vec f 32) (drop (length (vec f 32)) scratch) 32 n
+
+module _ (t : Tables) (g : Good t) (s v : ℕ) (below : v < valuesIn (t .clock)) (scratch : List ℕ) where
+  abbrev slot : ℕ
+  slot = slotSeen (t .slots) (t .heads) s v
+
+  slot-low : slot < 96
+  slot-low = omega (arith, seen-used t (g .whole) s v below, clock-limits (t .clock) (good-parts t g .clock-fits) .few-slots)
+
+  -- no row is flipped: the version's own rows
+  own-rows : flipsSeen t s v ≡ 0 → rowsOf (pickedFrom (t .words) scratch (some slot)) ≡ queriedRows (meaning t .log) (chain (meaning t .chains) v) s v
+  unfolding rowsOf queried maxRows
+  own-rows z =
+      let old = versionAt (chain (meaning t .chains) v) s in
+      ap rowsOf (slot-picked (t .words) scratch slot slot-low (good-room t g .words-room))
+      ∙ ap (λ (n : ℕ). rowsBelow (bitAt (slotWords (t .words) slot)) (n * 64)) (length-slotWords (t .words) slot slot-low (good-room t g .words-room))
+      ∙ rows-ext (bitAt (slotWords (t .words) slot)) (rowsSeen t s v) 2048
+      (λ r l. vector-meets t (g .whole) s v r below ∙ sym (xorb-false (old .vector r))
+      ∙ ap (xorb (old .vector r)) (sym (count-none (flipped (meaning t .log) (chain (meaning t .chains) v) s v) 2048 .0 z r l)))
+
+  -- some are: the scratch's
+  turned-rows : 32 ≤ length scratch
+      → rowsOf (pickedFrom (t .words) (over (vec (rowsSeen t s v) 32) scratch) none) ≡ queriedRows (meaning t .log) (chain (meaning t .chains) v) s v
+  unfolding maxRows
+  turned-rows room = ap rowsOf (scratch-picked (t .words) scratch (rowsSeen t s v) room) ∙ rowsOf-vec (rowsSeen t s v) 32
+
+  -- what is asked is answered
+  answered : (threshold : ℕ) → 32 ≤ length scratch
+      → heardWith (rowsPicked t (asked t scratch s v threshold)) (asked t scratch s v threshold .answer) ≡ querying (meaning t) s v threshold
+  unfolding asked
+  answered threshold room = go (eq-cases (flipsSeen t s v) 0)
+    where
+      go : (flipsSeen t s v ≡ 0) ⊎ (flipsSeen t s v ≡ 0 → ⊥)
+          → heardWith (rowsPicked t (asked t scratch s v threshold)) (asked t scratch s v threshold .answer) ≡ querying (meaning t) s v threshold
+      go (inl z) =
+          rw (eq-eqb (flipsSeen t s v) 0 z) (ap (listed 0 false) (own-rows z) ∙ rw (z, le-ltb threshold 0 zero-le))
+      go (inr d) = rw (ne-eqb (flipsSeen t s v) 0 d) (ap (listed (flipsSeen t s v) (ltb threshold (flipsSeen t s v))) (turned-rows room))
+
+  same : (threshold : ℕ) → asked t scratch s v threshold .after ≡ t
+  unfolding asked
+  same threshold = go (eq-cases (flipsSeen t s v) 0)
+    where
+      go : (flipsSeen t s v ≡ 0) ⊎ (flipsSeen t s v ≡ 0 → ⊥) → asked t scratch s v threshold .after ≡ t
+      go (inl z) = rw (eq-eqb (flipsSeen t s v) 0 z)
+      go (inr d) = rw (ne-eqb (flipsSeen t s v) 0 d)
+
+-- ---- the call
+
+-- 10 fails: the scratch has room
+room-for : (n : ℕ) → ltb n vectorWords ≡ false → 32 ≤ n
+unfolding vectorWords
+room-for n e = ltb-false n 32 e
+
+pub query-follows : (t : Tables) → Good t → (scratch : List ℕ) (n v threshold : ℕ)
+    → QueryFollows t (query n v threshold (length scratch)) (queryOf t scratch n v threshold)
+unfolding queryOf unlessAsked step effect tests
+query-follows t g scratch n v threshold = rw (refusal-is t g c) (go (refusal (meaning t) c) refl)
+  where
+    c : Call
+    c = query n v threshold (length scratch)
+
+    s : ℕ
+    s = startOf (session (meaning t) n)
+
+    go : (q : Option ℕ) → refusal (meaning t) c ≡ q → QueryFollows t c (unlessAsked q t scratch (asked t scratch s v threshold))
+    go none e =
+        let f = accepted t g c e .fail in
+        let below = value-low t v (f .1 .1 .0) in
+        let after = same t g s v below scratch threshold in
+        record {
+          same-tables = after;
+          same-state = ap meaning after ∙ rw e;
+          same-answer = answered t g s v below scratch threshold (room-for (length scratch) (f .1 .1 .1 .0)) ∙ rw e;
+          stays-good = rw after g;
+        }
+    go (some k) e = record { same-tables = refl; same-state = rw e; same-answer = rw e; stays-good = g }

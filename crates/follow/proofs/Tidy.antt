@@ -1,0 +1,206 @@
+-- Tidy follows the rules.
+-- Assumes nothing.
+use mathlib.Core.Path.{_≡_, refl, sym, ap, ap₂, _∙_, fun-ext}
+use mathlib.Core.Bool.{Bool, true, false}
+use mathlib.Core.List.{[], _∷_}
+use mathlib.Core.Logic.{inr, ⊎-elim}
+use Prim.Native.Nat.{ℕ, suc, _+_, _*_, _≤_, _<_}
+use native.Mathlib.Numerals.{add-one}
+use native.Mathlib.Omega.{arith}
+use borrow.Author.Tests.{leb-false, ltb-false}
+use lib.ListN.{length, length-set, length-map}
+use lib.Seq.{length-sets}
+use Rattle.bits.specs.Cases.{lt-cases}
+use Rattle.bits.specs.Vec.{vec, length-vec, bitAt-vec}
+use Rattle.bits.specs.Words.{bitAt, bitAt-above}
+use Rattle.bits.specs.Tail.{tailClear, tail-of-bits}
+use Rattle.rules.specs.Limits.{maxRecords, maxChanges, maxSlots}
+use Rattle.rules.specs.State.{Log, Chain, Version, chain}
+use Rattle.rules.specs.Versions.{queried}
+use Rattle.rules.specs.Tidy.{moved, tidyChange, tidyChanges}
+use Rattle.rules.specs.Calls.{tidy}
+use Rattle.rules.specs.Refusals.{tests}
+use Rattle.rules.specs.Step.{tidyRecord, tidyVersion, effect}
+use Rattle.rules.specs.Step as rules
+use Rattle.rules.specs.Damage.{ChangesFit, Undamaged}
+use Rattle.rules.proofs.Tests.{AllFail}
+use Rattle.rules.proofs.Fits.{queried-beyond}
+use Rattle.tables.specs.Cells.{Tables, valuesIn, firstIn, stampIn, rowsIn, slotsIn, changesIn, slotStamp, slotWords, headOf, rowsAt}
+use Rattle.tables.specs.Meaning.{meaning, chainAt}
+use Rattle.tables.proofs.Facts.{Room, room-made, Parts, whole, clock-limits, clock-facts}
+use Rattle.tables.proofs.Means.{values-means, rows-means, stamp-means, slots-means, changes-means, chain-means}
+use Rattle.tables.proofs.Undamaged.{means-undamaged}
+use Rattle.tables.proofs.Stores.{length-slot, length-head, length-record}
+use Rattle.index.specs.Said.{numbers}
+use Rattle.index.specs.Stores.{stores}
+use Rattle.index.specs.Outcome.{outcome}
+use Rattle.index.specs.Calls.{own, tidyStores, tidyOf}
+use Rattle.follow.proofs.Good.{Good, good-room, good-parts}
+use Rattle.follow.proofs.Follows.{Follows, follows}
+use Rattle.follow.proofs.Seated.{value-low, Open, open-seat}
+use Rattle.follow.proofs.CallStores.{tidiedChanges, tidyEnd, tidyClock, tidySlots, tidyVector, tidyWords, tidied, tidy-stores}
+use Rattle.follow.proofs.NewChanges.{length-changes}
+use Rattle.follow.proofs.NewClock.{tidy-clock, few-records, few-changes, few-slots, clock-later}
+use Rattle.follow.proofs.NewRecord.{newLog, NextRecord, rows-new, records-later, sessions-later}
+use Rattle.follow.proofs.Grown.{last-fits, grown-means, grown-changes}
+use Rattle.follow.proofs.OldSlots.{slots-later, heads-later, vectors-later}
+use Rattle.follow.proofs.NewSlot.{NextSlot, slots-same, new-stamp, new-words, new-slot, new-head}
+use Rattle.follow.proofs.NewChains.{newVersion, chains-mean}
+
+-- a change for each moved row
+tidy-size : (log : Log) (s v : ℕ) → length (tidyChanges log s v) ≡ length (moved log s v)
+unfolding tidyChanges
+tidy-size log s v = length-map (moved log s v) (tidyChange log s v)
+
+-- what an accepted tidy of a session with start s has: a value, and room for its record and its slot
+record Fits (t : Tables) (s v : ℕ) : Type 0 where
+  value-fits : v < valuesIn (t .clock)
+  records-fit : stampIn (t .clock) < maxRecords
+  changes-fit : tidyEnd t s v ≤ maxChanges
+  slots-fit : slotsIn (t .clock) < maxSlots
+
+fits : (t : Tables) (n v : ℕ) → Good t → Open t n → AllFail (tests (meaning t) (tidy n v)) → Fits t (own t n .start .0) v
+unfolding tests
+fits t n v g o p =
+    record {
+      value-fits = value-low t v (p .1 .1 .0);
+      records-fit = leb-false _ _ (rw (stamp-means t) at (p .1 .1 .1 .1 .1 .0));
+      changes-fit =
+          rw (tidy-size (meaning t .log) (own t n .start .0) v)
+          (ltb-false _ _ (rw (o .means, changes-means t (good-parts t g .records-fit)) at (p .1 .1 .1 .1 .1 .1 .0)));
+      slots-fit = leb-false _ _ (rw (slots-means t) at (p .1 .1 .1 .1 .1 .1 .1 .0));
+    }
+
+-- the vector's words have the rows of the query, since no query has a row at or above the row count
+vector-means : (f : ℕ → Bool) (n : ℕ) → n ≤ 2048 → ((r : ℕ) → n ≤ r → f r ≡ false) → bitAt (vec f 32) ≡ f
+vector-means f n h z =
+    fun-ext (λ r. ⊎-elim (λ (l : r < 2048). bitAt-vec f 32 r l) (λ (l : 2048 ≤ r). bitAt-above (vec f 32) r (omega (arith, length-vec f 32)) ∙ sym (z r (omega arith))) (lt-cases r 2048))
+
+module _ (t : Tables) (g : Good t) (s v : ℕ) (f : Fits t s v) where
+  -- its record and its clock
+  next : NextRecord (t .clock) (tidyClock t s v) (t .log) 2 (rowsIn (t .clock)) (slotsIn (t .clock) + 1) (tidyEnd t s v)
+  next =
+      record {
+        later = tidy-clock (t .clock) (rowsIn (t .clock)) (slotsIn (t .clock) + 1) (tidyEnd t s v) (good-room t g .clock-room);
+        records-fit = good-parts t g .records-fit;
+        stamp-low = few-records (stampIn (t .clock)) (f .records-fit);
+        log-room = good-room t g .log-room;
+        kinds = inr refl;
+        rows-rise = omega arith;
+        ends-rise = omega arith;
+      }
+
+  -- its slot
+  slot : NextSlot (t .clock) (t .slots) (t .words) (t .heads) v (tidyVector t s v)
+  slot =
+      record {
+        slots-fit = good-parts t g .slots-fit;
+        heads-fit = good-parts t g .heads-fit;
+        value-low = f .value-fits;
+        slot-low = few-slots (slotsIn (t .clock)) (f .slots-fit);
+        slots-room = good-room t g .slots-room;
+        words-room = good-room t g .words-room;
+        head-room = omega (arith, f .value-fits, clock-limits (t .clock) (good-parts t g .clock-fits) .few-values, good-room t g .heads-room);
+        size = length-vec (queried (meaning t .log) (chain (meaning t .chains) v) s v) 32;
+      }
+
+  -- the query has no row at or above the row count
+  query-low : (r : ℕ) → rowsIn (t .clock) ≤ r → queried (meaning t .log) (chain (meaning t .chains) v) s v r ≡ false
+  query-low r h =
+      let u = means-undamaged t (g .whole) in
+      queried-beyond (meaning t .values) (meaning t .first) (meaning t .rows) (meaning t .log) (u .log-fits) (chain (meaning t .chains) v) s v r
+      (u .vectors-fit v (rw (values-means t) (f .value-fits))) (rw (rows-means t) h)
+
+  -- the rows of its words are those of the query
+  vector : bitAt (tidyVector t s v) ≡ queried (meaning t .log) (chain (meaning t .chains) v) s v
+  vector =
+      vector-means (queried (meaning t .log) (chain (meaning t .chains) v) s v) (rowsIn (t .clock)) (clock-limits (t .clock) (good-parts t g .clock-fits) .few-rows) query-low
+
+  -- the chain of v: the new version in front
+  version : newVersion (t .clock) (tidyVector t s v) ≡ tidyVersion (meaning t) s v
+  version =
+      ap₂ (λ (k : ℕ) (w : ℕ → Bool). record { stamp = k; vector = w }) (add-one (stampIn (t .clock)) ∙ ap suc (sym (stamp-means t))) vector
+
+  front : newVersion (t .clock) (tidyVector t s v) ∷ chainAt (t .slots) (t .words) (t .heads) v ≡ tidyVersion (meaning t) s v ∷ chain (meaning t .chains) v
+  front = ap₂ (λ (x : Version) (xs : Chain). x ∷ xs) version (sym (chain-means t v (f .value-fits)))
+
+  -- the cells mean the rules' next state
+  tidy-state : meaning (tidied t s v) ≡ rules.tidying (meaning t) s v
+  unfolding meaning
+  tidy-state =
+      rw (
+        next .later .values-kept,
+        next .later .first-kept,
+        next .later .rows-now,
+        next .later .slots-now,
+        grown-means next (t .changes) (tidiedChanges t s v) refl (few-changes (tidyEnd t s v) (f .changes-fit)) (good-room t g .changes-room),
+        chains-mean slot,
+        front,
+        add-one (slotsIn (t .clock)),
+      )
+
+  -- the new record fits, as the rules have it
+  record-fits : Undamaged (rules.tidying (meaning t) s v) → ChangesFit (valuesIn (t .clock)) (rowsIn (t .clock)) (tidiedChanges t s v)
+  unfolding meaning
+  record-fits u =
+      last-fits (valuesIn (t .clock)) (firstIn (t .clock)) (rowsIn (t .clock)) (meaning t .log) (tidyRecord (meaning t) s v) (u .log-fits)
+
+  -- no bit of the new vector is at or above the row count of its stamp
+  new-vector : (i : ℕ) → slotsIn (t .clock) ≤ i → i < slotsIn (t .clock) + 1
+      → tailClear (slotWords (tidyWords t s v) i)
+      (rowsAt (firstIn (tidyClock t s v)) (newLog (t .clock) (t .log) 2 (rowsIn (t .clock)) (tidyEnd t s v)) (slotStamp (tidySlots t s v) i)) ≡ true
+  new-vector i h l =
+      let e : i ≡ slotsIn (t .clock) = omega arith in
+      rw (e, new-words slot, new-stamp slot, add-one (stampIn (t .clock)), rows-new next)
+      (tail-of-bits (tidyVector t s v) (rowsIn (t .clock)) (λ r m. ap (λ (q : ℕ → Bool). q r) vector ∙ query-low r m))
+
+  -- and the tables stay good
+  tidy-room : Room (tidied t s v)
+  tidy-room =
+      let r = good-room t g in
+      let c = t .clock in
+      record {
+        clock-room = simp length-set (r .clock-room);
+        slots-room = rw (length-slot (t .slots) (slotsIn c) v (stampIn c + 1) (headOf (t .heads) v + 1)) (r .slots-room);
+        words-room = rw (length-sets (t .words) (32 * slotsIn c) (tidyVector t s v)) (r .words-room);
+        heads-room = rw (length-head (t .heads) v (slotsIn c)) (r .heads-room);
+        log-room = rw (length-record (t .log) (stampIn c) 2 (rowsIn c) (tidyEnd t s v)) (r .log-room);
+        changes-room = rw (length-changes (t .changes) (changesIn c) (tidiedChanges t s v)) (r .changes-room);
+        sessions-room = r .sessions-room;
+      }
+
+  tidy-parts : Undamaged (rules.tidying (meaning t) s v) → Parts (tidied t s v)
+  tidy-parts u =
+      let c = t .clock in
+      let p = good-parts t g in
+      let same = slots-same slot in
+      record {
+        clock-fits =
+            clock-later c (tidyClock t s v) (rowsIn c) (slotsIn c + 1) (tidyEnd t s v) (next .later) (p .clock-fits) (clock-facts c (p .clock-fits) .rows-high)
+            (f .records-fit) (omega arith) (omega (arith, f .slots-fit)) (f .changes-fit);
+        records-fit = records-later next;
+        changes-fit =
+            grown-changes next (t .changes) (tidiedChanges t s v) refl (few-changes (tidyEnd t s v) (f .changes-fit)) (good-room t g .changes-room) (p .changes-fit) (record-fits u);
+        slots-fit =
+            slots-later next same (p .slots-fit) (clock-facts c (p .clock-fits) .slots-low)
+            (λ i h l. let e : i ≡ slotsIn c = omega arith in rw e (new-slot slot));
+        heads-fit = heads-later next same (p .slots-fit) (tidied t s v .heads) (new-head slot);
+        vectors-fit = vectors-later next same (p .slots-fit) (p .vectors-fit) new-vector;
+        sessions-fit = sessions-later next (t .sessions) (p .sessions-fit);
+      }
+
+  tidy-good : Undamaged (rules.tidying (meaning t) s v) → Good (tidied t s v)
+  tidy-good u = record { room = room-made (tidied t s v) tidy-room; whole = whole (tidied t s v) (tidy-parts u); wide = g .wide }
+
+pub tidy-follows : (t : Tables) → Good t → (n v : ℕ) → Follows t (tidy n v) (tidyOf t n v)
+unfolding tidyOf tests effect
+tidy-follows t g n v =
+    let s = own t n .start .0 in
+    follows t g (tidy n v) (outcome (stores t (tidyStores t s v)) (numbers ((stampIn (t .clock) + 1) ∷ length (moved (meaning t .log) s v) ∷ [])))
+    (λ a. let o = open-seat t n g (a .fail .0) (a .fail .1 .0) in
+    let f = fits t n v g o (a .fail) in
+    record {
+      same-state = ap meaning (tidy-stores t s v) ∙ tidy-state t g s v f ∙ rw (o .means);
+      same-answer = rw (o .means, stamp-means t, add-one);
+      stays-good = rw (tidy-stores t s v) (tidy-good t g s v f (rw (o .means) at (a .undamaged)));
+    })

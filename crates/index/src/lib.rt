@@ -1,0 +1,18 @@
+// The ten calls over the lent tables, and the picker. An outer call is thin: it sees its seat in the lent session table, calls
+// the core of its name, and puts one session back. Assumes nothing.
+mod answers;
+mod begin;
+mod create;
+mod enter;
+mod query;
+
+pub use answers::Answer;
+pub use answers::Done;
+pub use answers::Place;
+pub use answers::Seat;
+pub use begin::abort_in;
+pub use begin::begin_in;
+pub use create::create_in;
+pub use query::picked;
+pub use query::query_in;
+pub use query::read_in;

@@ -1,0 +1,6 @@
+pub mod Data
+pub mod Kit
+pub mod Walks
+pub mod Rules
+pub mod Types
+pub mod Lends

@@ -1,0 +1,109 @@
+-- The session at a place of the lent slice, and the slice with a session put at a place or with every place freed: the first 16
+-- places are in use, and no other is read or written. Assumes nothing.
+use mathlib.Core.Path.{_≡_, refl, sym, _∙_, ap}
+use mathlib.Core.Bool.{Bool, true, false, not, cond, _&&_}
+use mathlib.Core.List.{List, [], _∷_}
+use mathlib.Core.Logic.{_⊎_, inl, inr, ⊎-elim}
+use Prim.Native.Nat.{ℕ, zero, suc, _+_, _≤_, _<_}
+use native.Mathlib.Omega.{arith}
+use lib.Dec.{T, ltb, ltb→lt, nltb→le, lt→ltb}
+use lib.ListN.{length, getD, set, replicate, length-set, List·getD-eq-default}
+use lib.Seq.{sets, length-sets, set-out, getD-set-same, getD-set-other}
+use mir.Facts.{and-yes, and-no}
+use Rattle.bits.specs.Cases.{eq-cases, lt-cases}
+use Rattle.tables.specs.declared.session.Session.{Session}
+use Rattle.tables.specs.Sessions.{freed, sessionAt}
+
+-- the session at place n; a free one where n is no place
+unfoldable pub seatAt : List Session → ℕ → Session
+seatAt ts n = cond (ltb n 16) (sessionAt ts n) freed
+
+-- a session put at place i; where i is no place, nothing changes
+unfoldable pub putAt : List Session → ℕ → Session → List Session
+putAt ts i s = cond (ltb i 16) (set ts i s) ts
+
+-- "all sessions free": every place freed
+unfoldable pub freedAll : List Session → List Session
+freedAll ts = sets ts 0 (replicate 16 freed)
+
+-- ---- a place that the slice has, and one that it has not
+cond-yes : {X : Type 0} (t : Bool) (a b : X) → T t → cond t a b ≡ a
+cond-yes true a b h = refl
+cond-yes false a b h = absurd h
+
+cond-no : {X : Type 0} (t : Bool) (a b : X) → T (not t) → cond t a b ≡ b
+cond-no true a b h = absurd h
+cond-no false a b h = refl
+
+same-both : {X : Type 0} (t : Bool) (a : X) → cond t a a ≡ a
+same-both true a = refl
+same-both false a = refl
+
+pub seat-there : (ts : List Session) (n : ℕ) → T (ltb n 16 && ltb n (length ts)) → sessionAt ts n ≡ seatAt ts n
+unfolding seatAt
+seat-there ts n h = sym (cond-yes (ltb n 16) (sessionAt ts n) freed (and-yes (ltb n 16) (ltb n (length ts)) h .0))
+
+pub seat-nowhere : (ts : List Session) (n : ℕ) → T (not (ltb n 16 && ltb n (length ts))) → freed ≡ seatAt ts n
+unfolding seatAt
+seat-nowhere ts n h =
+    ⊎-elim (λ (no : T (not (ltb n 16))). sym (cond-no (ltb n 16) (sessionAt ts n) freed no))
+    (λ (no : T (not (ltb n (length ts)))). sym (ap (λ (s : Session). cond (ltb n 16) s freed) (List·getD-eq-default ts freed (nltb→le n (length ts) no)) ∙ same-both (ltb n 16) freed))
+    (and-no (ltb n 16) (ltb n (length ts)) h)
+
+pub put-there : (ts : List Session) (i : ℕ) (s : Session) → T (ltb i 16 && ltb i (length ts)) → set ts i s ≡ putAt ts i s
+unfolding putAt
+put-there ts i s h = sym (cond-yes (ltb i 16) (set ts i s) ts (and-yes (ltb i 16) (ltb i (length ts)) h .0))
+
+pub put-nowhere : (ts : List Session) (i : ℕ) (s : Session) → T (not (ltb i 16 && ltb i (length ts))) → ts ≡ putAt ts i s
+unfolding putAt
+put-nowhere ts i s h =
+    ⊎-elim (λ (no : T (not (ltb i 16))). sym (cond-no (ltb i 16) (set ts i s) ts no))
+    (λ (no : T (not (ltb i (length ts)))). sym (ap (λ (us : List Session). cond (ltb i 16) us ts) (set-out ts i s (nltb→le i (length ts) no)) ∙ same-both (ltb i 16) ts))
+    (and-no (ltb i 16) (ltb i (length ts)) h)
+
+-- ---- what a caller knows
+pub length-put-at : (ts : List Session) (i : ℕ) (s : Session) → length (putAt ts i s) ≡ length ts
+unfolding putAt
+length-put-at ts i s = go (ltb i 16)
+  where
+    go : (t : Bool) → length (cond t (set ts i s) ts) ≡ length ts
+    go true = length-set ts i s
+    go false = refl
+
+pub length-freed-all : (ts : List Session) → length (freedAll ts) ≡ length ts
+unfolding freedAll
+length-freed-all ts = length-sets ts 0 (replicate 16 freed)
+
+-- ---- the loop that frees every place: what is left of it, from place i on
+abbrev pub freedFrom : List Session → ℕ → ℕ → List Session
+freedFrom ts i n = sets ts i (replicate n freed)
+
+-- a place freed is a step of it
+pub free-step : (ts : List Session) (i n : ℕ) → i < 16 → freedFrom (putAt ts i freed) (suc i) n ≡ freedFrom ts i (suc n)
+unfolding putAt
+free-step ts i n h = ap (λ (us : List Session). freedFrom us (suc i) n) (cond-yes (ltb i 16) (set ts i freed) ts (lt→ltb i 16 h))
+
+-- freeing a place leaves it free, and leaves free what was free
+at-itself : (ts : List Session) (j : ℕ) → sessionAt (set ts j freed) j ≡ freed
+at-itself ts j =
+    ⊎-elim (λ (l : j < length ts). getD-set-same ts j freed freed l)
+    (λ (l : length ts ≤ j). ap (λ (us : List Session). sessionAt us j) (set-out ts j freed l) ∙ List·getD-eq-default ts freed l) (lt-cases j (length ts))
+
+stays-free : (ts : List Session) (i j : ℕ) → sessionAt ts j ≡ freed → sessionAt (set ts i freed) j ≡ freed
+stays-free ts i j e =
+    ⊎-elim (λ (s : j ≡ i). ap (λ (k : ℕ). sessionAt (set ts k freed) j) (sym s) ∙ at-itself ts j) (λ (no : j ≡ i → ⊥). getD-set-other ts i j freed freed no ∙ e) (eq-cases j i)
+
+all-stay-free : (n : ℕ) (ts : List Session) (i j : ℕ) → sessionAt ts j ≡ freed → sessionAt (freedFrom ts i n) j ≡ freed
+all-stay-free zero ts i j e = e
+all-stay-free (suc n) ts i j e = all-stay-free n (set ts i freed) (suc i) j (stays-free ts i j e)
+
+free-between : (n : ℕ) (ts : List Session) (i j : ℕ) → i ≤ j → j < i + n → sessionAt (freedFrom ts i n) j ≡ freed
+free-between zero ts i j l h = absurd (omega (arith, l, h))
+free-between (suc n) ts i j l h =
+    ⊎-elim (λ (s : i ≡ j). all-stay-free n (set ts i freed) (suc i) j (ap (λ (k : ℕ). sessionAt (set ts k freed) j) s ∙ at-itself ts j))
+    (λ (no : i ≡ j → ⊥). free-between n (set ts i freed) (suc i) j (omega (arith, l, no)) (omega (arith, h))) (eq-cases i j)
+
+-- every place is free once all are freed
+pub freed-all-at : (ts : List Session) (j : ℕ) → j < 16 → sessionAt (freedAll ts) j ≡ freed
+unfolding freedAll
+freed-all-at ts j h = free-between 16 ts 0 j (omega arith) (omega (arith, h))
