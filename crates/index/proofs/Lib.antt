@@ -11,3 +11,13 @@ pub mod QueryLaws
 pub mod PickLaws
 pub mod QueryRows
 pub mod CreateLaws
+pub mod StoreLaws
+pub mod ListLaws
+pub mod ClashLaws
+pub mod WriteLaws
+pub mod CommitWork
+pub mod OpenLaws
+pub mod ChangeLaws
+pub mod ChangeCores
+pub mod CommitTests
+pub mod CommitCores

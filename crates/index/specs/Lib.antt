@@ -6,3 +6,6 @@ pub mod Query
 pub mod Seats
 pub mod Enter
 pub mod Create
+pub mod Opened
+pub mod Change
+pub mod Commit

@@ -1,6 +1,10 @@
+-- The laws and the rules of the walks that belong to no one function.
+-- Assumes nothing.
 pub mod Data
 pub mod Kit
 pub mod Walks
 pub mod Rules
 pub mod Types
 pub mod Lends
+pub mod Numbers
+pub mod Outer

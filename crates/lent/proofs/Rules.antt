@@ -1,7 +1,7 @@
 -- Rules of a walk, beside the kit's: a call from what its callee asks to what the callee says, a result that is stored, and a slice that is passed on.
 --     envOf            a function's locals, at their places
 --     after            the code after the first statement.        Nearer, nearer-wf      the order by a count that falls, for a loop
---     cell, hole       a local with a value, and one that has room
+--     cell, hole, holes        a local with a value, one that has room, and several that have
 --     tokens           the lifetimes' tokens, as an item
 --     asks             a call: the callee's tokens and parameters stand at the head of the context; after it stand there what the callee ensures, the last values, the result and the tokens
 --     arrives          a result of plain data is stored in a local that has room
@@ -74,6 +74,12 @@ module _ {M : Type 1} {𝓤 : URA M} where
   abbrev pub hole : Ty → ℕ → List (Item 𝓤) → List (Item 𝓤)
   hole τ l Γ = ‵ (froom τ l zero) ∷ ‵ (fdies τ l) ∷ Γ
 
+  -- several of the latter, the last in front
+  abbrev pub holes : List Local → List ℕ → List (Item 𝓤) → List (Item 𝓤)
+  holes [] bs Γ = Γ
+  holes (local τ h ∷ ls) [] Γ = Γ
+  holes (local τ h ∷ ls) (b ∷ bs) Γ = holes ls bs (hole τ b Γ)
+
   abbrev pub tokens : (n : ℕ) → Lfts n → Shares n → Item 𝓤
   tokens zero κs qs = ‵ ftrue
   tokens (suc n) κs qs = ‵ (flft (κs .0) (qs .0)) ⊛ tokens n (κs .1) (qs .1)
@@ -109,7 +115,7 @@ part-at {𝓤 = 𝓤} {K = K} {W = W} {q = q} {τ = τ} {b = b} {o = o} {v = v} 
 
 module _ {M : Type 1} {𝓤 : URA M} {H : Heap 𝓤} {A : Atoms 𝓤} {K : Type 0} {W : Given 𝓤 H A} {Γ : List (Item 𝓤)} {E : Env 𝓤 H} where
   -- a place in a local that is known to lie at sp
-  from-at : K → {i : ℕ} {st : List PStep} {sp sp′ : Spot 𝓤 H} → spotOf 𝓤 H E i ≡ sp → Goes K W Γ E sp st sp′ → Finds K W Γ E (place i st) sp′
+  pub from-at : K → {i : ℕ} {st : List PStep} {sp sp′ : Spot 𝓤 H} → spotOf 𝓤 H E i ≡ sp → Goes K W Γ E sp st sp′ → Finds K W Γ E (place i st) sp′
   from-at t {st = st} {sp′ = sp′} e w = from t (subst (λ (s : Spot 𝓤 H). Goes K W Γ E s st sp′) (sym e) w)
 
 module _ {M : Type 1} {𝓤 : URA M} {H : Heap 𝓤} {A : Atoms 𝓤} {K : Type 0} {W : Given 𝓤 H A} {Γ : List (Item 𝓤)} {E : Env 𝓤 H} {C : Calls 𝓤 H} {Λ : Loops 𝓤 H} {q : Post 𝓤 H} {rest : Body} where

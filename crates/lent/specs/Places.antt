@@ -6,9 +6,10 @@ use mathlib.Core.List.{List, [], _∷_}
 use mathlib.Core.Logic.{_⊎_, inl, inr, ⊎-elim}
 use Prim.Native.Nat.{ℕ, zero, suc, _+_, _≤_, _<_}
 use native.Mathlib.Omega.{arith}
-use lib.Dec.{T, ltb, ltb→lt, nltb→le, lt→ltb}
+use borrow.Author.Tests.{lt-ltb, le-ltb}
+use lib.Dec.{T, ltb, nltb→le}
 use lib.ListN.{length, getD, set, replicate, length-set, List·getD-eq-default}
-use lib.Seq.{sets, length-sets, set-out, getD-set-same, getD-set-other}
+use lib.Seq.{sets, length-sets, set-out, set-getD, getD-set-same, getD-set-other}
 use mir.Facts.{and-yes, and-no}
 use Rattle.bits.specs.Cases.{eq-cases, lt-cases}
 use Rattle.tables.specs.declared.session.Session.{Session}
@@ -62,6 +63,35 @@ put-nowhere ts i s h =
     (and-no (ltb i 16) (ltb i (length ts)) h)
 
 -- ---- what a caller knows
+pub seat-near : (ts : List Session) (n : ℕ) → n < 16 → seatAt ts n ≡ sessionAt ts n
+unfolding seatAt
+seat-near ts n l = ap (λ (t : Bool). cond t (sessionAt ts n) freed) (lt-ltb n 16 l)
+
+put-near : (ts : List Session) (i : ℕ) (s : Session) → i < 16 → putAt ts i s ≡ set ts i s
+unfolding putAt
+put-near ts i s l = ap (λ (t : Bool). cond t (set ts i s) ts) (lt-ltb i 16 l)
+
+-- the place has the session that was put there, and the others have theirs
+pub put-at-same : (ts : List Session) (i : ℕ) (s : Session) → i < 16 → i < length ts → sessionAt (putAt ts i s) i ≡ s
+put-at-same ts i s l h = ap (λ (us : List Session). sessionAt us i) (put-near ts i s l) ∙ getD-set-same ts i s freed h
+
+pub put-at-other : (ts : List Session) (i j : ℕ) (s : Session) → (j ≡ i → ⊥) → sessionAt (putAt ts i s) j ≡ sessionAt ts j
+unfolding putAt
+put-at-other ts i j s ne = go (ltb i 16)
+  where
+    go : (t : Bool) → sessionAt (cond t (set ts i s) ts) j ≡ sessionAt ts j
+    go true = getD-set-other ts i j s freed ne
+    go false = refl
+
+-- nothing changes where there is no such place, or where what is put is there already
+pub put-at-far : (ts : List Session) (i : ℕ) (s : Session) → 16 ≤ i → putAt ts i s ≡ ts
+unfolding putAt
+put-at-far ts i s l = ap (λ (t : Bool). cond t (set ts i s) ts) (le-ltb i 16 l)
+
+pub put-at-again : (ts : List Session) (i : ℕ) → putAt ts i (sessionAt ts i) ≡ ts
+unfolding putAt
+put-at-again ts i = ap (λ (us : List Session). cond (ltb i 16) us ts) (set-getD ts i freed) ∙ same-both (ltb i 16) ts
+
 pub length-put-at : (ts : List Session) (i : ℕ) (s : Session) → length (putAt ts i s) ≡ length ts
 unfolding putAt
 length-put-at ts i s = go (ltb i 16)
@@ -80,8 +110,7 @@ freedFrom ts i n = sets ts i (replicate n freed)
 
 -- a place freed is a step of it
 pub free-step : (ts : List Session) (i n : ℕ) → i < 16 → freedFrom (putAt ts i freed) (suc i) n ≡ freedFrom ts i (suc n)
-unfolding putAt
-free-step ts i n h = ap (λ (us : List Session). freedFrom us (suc i) n) (cond-yes (ltb i 16) (set ts i freed) ts (lt→ltb i 16 h))
+free-step ts i n h = ap (λ (us : List Session). freedFrom us (suc i) n) (put-near ts i freed h)
 
 -- freeing a place leaves it free, and leaves free what was free
 at-itself : (ts : List Session) (j : ℕ) → sessionAt (set ts j freed) j ≡ freed
