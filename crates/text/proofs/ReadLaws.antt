@@ -1,0 +1,317 @@
+-- Laws of a whole line: a request by the word's numbers asks for what the line means.
+-- Assumes nothing.
+use mathlib.Core.Path.{_≡_, refl, sym, ap, _∙_}
+use mathlib.Core.List.{List, [], _∷_, map}
+use mathlib.Core.Bool.{Bool, true, false, cond}
+use mathlib.Core.Option.{Option, none, some}
+use Prim.Native.Nat.{ℕ, zero, suc, _+_, _*_, _<_, _≤_}
+use native.Mathlib.Omega.{arith}
+use borrow.Author.Tests.{le-leb, lt-leb, leb-true}
+use lib.Dec.{leb}
+use lib.ListN.{length, take, drop}
+use lib.Seq.{sets, sets-eq, take-at, length-sets}
+use Rattle.bits.specs.Column.{valueOf, value-none, value-some}
+use Rattle.rules.specs.Limits.{usualThreshold, vectorWords}
+use Rattle.rules.specs.Calls.{Call, create, begin, query, read, update, delete, insert, commit, tidy, abort}
+use Rattle.text.specs.declared.words.Word.{Word}
+use Rattle.text.specs.declared.words.Word.the-variants as word
+use Rattle.text.specs.declared.requests.Request.{Request}
+use Rattle.text.specs.Bytes.{bytes, same}
+use Rattle.text.specs.Split.{split, space}
+use Rattle.text.specs.Number.{number}
+use Rattle.text.specs.Parse.{withFirst, each, one, two, three, upTo254, small, holding, cellOf, both, column, wordCall, fieldsCall, longestLine, parse}
+use Rattle.text.specs.Places.{upTo, endAt, after}
+use Rattle.text.specs.Words.{orWord, laterWord, wordOf, arityOf}
+use Rattle.text.specs.Cells.{byteOf, orEnd, bytesOf}
+use Rattle.text.specs.Asked.{askedBy, asked, ifRead, columnBytes, fieldsBytes, lineBytes, Requested, ask, unreadable, orUnread, oneAsked, twoAsked, threeAsked, columnAsked, Columned}
+use Rattle.text.proofs.SplitLaws.{end-fits, take-first, split-start, size, size-split}
+use Rattle.text.proofs.ColumnLaws.{byte-some}
+
+-- ---- a word's call, by the code's type
+
+unfoldable pub callOf : Word → List (List ℕ) → Option Call
+callOf word.Column fs = column create cellOf fs
+callOf word.Begin fs = one begin (each number fs)
+callOf word.Query fs = two (λ i v. query i v usualThreshold vectorWords) (each number fs)
+callOf word.Read fs = two read (each number fs)
+callOf word.Update fs = three update (each number fs)
+callOf word.Delete fs = two delete (each number fs)
+callOf word.Insert fs = two insert (each number fs)
+callOf word.Commit fs = one commit (each number fs)
+callOf word.Tidy fs = two tidy (each number fs)
+callOf word.Abort fs = one abort (each number fs)
+callOf word.Unknown fs = none
+
+or-call : (t : Bool) (w v : Word) (fs : List (List ℕ)) → callOf (orWord t w v) fs ≡ cond t (callOf w fs) (callOf v fs)
+unfolding orWord
+or-call true w v fs = refl
+or-call false w v fs = refl
+
+word-call : (f : List ℕ) (fs : List (List ℕ)) → callOf (wordOf f) fs ≡ wordCall f fs
+unfolding wordCall wordOf laterWord callOf
+word-call f fs = simp or-call
+
+-- the bytes that a word stores
+unfoldable pub storedBy : Word → List (List ℕ) → List ℕ
+storedBy word.Column fs = columnBytes fs
+storedBy word.Begin fs = []
+storedBy word.Query fs = []
+storedBy word.Read fs = []
+storedBy word.Update fs = []
+storedBy word.Delete fs = []
+storedBy word.Insert fs = []
+storedBy word.Commit fs = []
+storedBy word.Tidy fs = []
+storedBy word.Abort fs = []
+storedBy word.Unknown fs = []
+
+or-stored : (t : Bool) (w v : Word) (fs : List (List ℕ)) → storedBy (orWord t w v) fs ≡ cond t (storedBy w fs) (storedBy v fs)
+unfolding orWord
+or-stored true w v fs = refl
+or-stored false w v fs = refl
+
+either : (t : Bool) (l : List ℕ) → cond t l l ≡ l
+either true l = refl
+either false l = refl
+
+word-stored : (f : List ℕ) (fs : List (List ℕ)) → storedBy (wordOf f) fs ≡ cond (same f (bytes "column")) (columnBytes fs) []
+unfolding wordOf laterWord storedBy
+word-stored f fs = simp (or-stored, either)
+
+-- ---- a column's values as bytes and as what the rows hold
+
+valued : Option ℕ → Option (Option ℕ)
+valued none = none
+valued (some b) = some (valueOf b)
+
+values : Option (List ℕ) → Option (List (Option ℕ))
+values none = none
+values (some l) = some (map valueOf l)
+
+up-valued : (o : Option ℕ) → holding (upTo254 o) ≡ valued (upTo254 o)
+unfolding upTo254 holding valued
+up-valued none = refl
+up-valued (some x) = go (leb x 254) refl
+  where
+    go : (t : Bool) → leb x 254 ≡ t → holding (cond (leb x 254) (some x) none) ≡ valued (cond (leb x 254) (some x) none)
+    go true e = rw (e, value-some x (λ z. omega (arith, leb-true x 254 e)))
+    go false e = rw e
+
+cell-valued : (f : List ℕ) → cellOf f ≡ valued (byteOf f)
+unfolding cellOf byteOf small valued
+cell-valued f = go (same f (bytes "-"))
+  where
+    go : (t : Bool) → cond t (some none) (holding (upTo254 (number f))) ≡ valued (cond t (some 255) (upTo254 (number f)))
+    go true = rw value-none
+    go false = up-valued (number f)
+
+first-values : (o : Option ℕ) (p : Option (List ℕ)) → withFirst (valued o) (values p) ≡ values (withFirst o p)
+unfolding withFirst valued values
+first-values none p = refl
+first-values (some x) none = refl
+first-values (some x) (some l) = refl
+
+each-values : (fs : List (List ℕ)) → each cellOf fs ≡ values (each byteOf fs)
+unfolding each values
+each-values [] = refl
+each-values (f ∷ fs) = rw (cell-valued f, each-values fs, first-values (byteOf f) (each byteOf fs))
+
+-- where each field is a value, they are all stored
+first-stored : (o : Option ℕ) (p : Option (List ℕ)) (l m : List ℕ) → ((k : List ℕ) → p ≡ some k → m ≡ k) → withFirst o p ≡ some l → orEnd o m ≡ l
+unfolding withFirst orEnd
+first-stored none p l m h e = cc
+first-stored (some x) none l m h e = cc
+first-stored (some x) (some k) l m h e = rw (h k refl) (cc)
+
+all-stored : (fs : List (List ℕ)) (l : List ℕ) → each byteOf fs ≡ some l → bytesOf fs ≡ l
+unfolding each bytesOf
+all-stored [] l e = cc
+all-stored (f ∷ fs) l e = first-stored (byteOf f) (each byteOf fs) l (bytesOf fs) (λ k q. all-stored fs k q) e
+
+-- a value takes two bytes or more
+byte-size : (o : Option ℕ) (f l : List ℕ) (n : ℕ) → ((x : ℕ) → o ≡ some x → 1 ≤ length f) → 2 * length l ≤ n → 2 * length (orEnd o l) ≤ length f + 1 + n
+unfolding orEnd
+byte-size none f l n h k = omega arith
+byte-size (some x) f l n h k = omega (arith, h x refl)
+
+bytes-size : (fs : List (List ℕ)) → 2 * length (bytesOf fs) ≤ size fs
+unfolding bytesOf size
+bytes-size [] = omega arith
+bytes-size (f ∷ fs) = byte-size (byteOf f) f (bytesOf fs) (size fs) (λ x e. byte-some f x e) (bytes-size fs)
+
+take-sets : (d l : List ℕ) → length l ≤ length d → take (length l) (sets d 0 l) ≡ l
+take-sets d l h =
+    let e : 0 + length l ≤ length d = omega arith in
+    rw (sets-eq l d 0 e, take-at l (drop (0 + length l) d) (length l) refl)
+
+-- ---- a request asks for its word's call, and a column's values are among the lent bytes
+
+pub record Fits (r : Request) (d : List ℕ) (call : Option Call) : Type 0 where
+  pub means : asked r d ≡ call
+  pub within : r .word ≡ word.Column → r .b ≤ length d
+
+unread-fits : (d : List ℕ) → Fits unreadable d none
+unfolding asked askedBy
+unread-fits d = record { means = refl; within = λ e. omega arith }
+
+module _ (w : Word) (d : List ℕ) (other : arityOf w < 4) where
+  fits-some : (a b c : ℕ) (call : Call) → askedBy w a b c d ≡ some call → Fits (ask w a b c) d (some call)
+  unfolding asked arityOf
+  fits-some a b c call e = record { means = e; within = λ q. absurd (omega (arith, ap arityOf q)) }
+
+  fits-one : (call : ℕ → Call) → ((a : ℕ) → askedBy w a 0 0 d ≡ some (call a)) → (o : Option (List ℕ)) → Fits (orUnread (one (λ a. ask w a 0 0) o)) d (one call o)
+  unfolding one orUnread
+  fits-one call h none = unread-fits d
+  fits-one call h (some []) = unread-fits d
+  fits-one call h (some (a ∷ [])) = fits-some a 0 0 (call a) (h a)
+  fits-one call h (some (a ∷ b ∷ l)) = unread-fits d
+
+  fits-two : (call : ℕ → ℕ → Call) → ((a b : ℕ) → askedBy w a b 0 d ≡ some (call a b)) → (o : Option (List ℕ)) → Fits (orUnread (two (λ a b. ask w a b 0) o)) d (two call o)
+  unfolding two orUnread
+  fits-two call h none = unread-fits d
+  fits-two call h (some []) = unread-fits d
+  fits-two call h (some (a ∷ [])) = unread-fits d
+  fits-two call h (some (a ∷ b ∷ [])) = fits-some a b 0 (call a b) (h a b)
+  fits-two call h (some (a ∷ b ∷ c ∷ l)) = unread-fits d
+
+  fits-three : (call : ℕ → ℕ → ℕ → Call) → ((a b c : ℕ) → askedBy w a b c d ≡ some (call a b c)) → (o : Option (List ℕ)) → Fits (orUnread (three (λ a b c. ask w a b c) o)) d (three call o)
+  unfolding three orUnread
+  fits-three call h none = unread-fits d
+  fits-three call h (some []) = unread-fits d
+  fits-three call h (some (a ∷ [])) = unread-fits d
+  fits-three call h (some (a ∷ b ∷ [])) = unread-fits d
+  fits-three call h (some (a ∷ b ∷ c ∷ [])) = fits-some a b c (call a b c) (h a b c)
+  fits-three call h (some (a ∷ b ∷ c ∷ e ∷ l)) = unread-fits d
+
+fits-both : (o : Option ℕ) (p : Option (List ℕ)) (m d : List ℕ) → ((l : List ℕ) → p ≡ some l → m ≡ l) → length m ≤ length d
+    → Fits (orUnread (both (λ c l. ask word.Column c (length l) 0) o p)) (sets d 0 (ifRead o m)) (both create o (values p))
+unfolding both orUnread ifRead values asked askedBy
+fits-both none p m d h k = unread-fits d
+fits-both (some c) none m d h k = unread-fits (sets d 0 m)
+fits-both (some c) (some l) m d h k =
+    let e : m ≡ l = h l refl in
+    record {
+      means = rw (← e, take-sets d m k);
+      within = λ q. omega (arith, length-sets d 0 m, ap length e);
+    }
+
+fits-column : (fs : List (List ℕ)) (d : List ℕ) → size fs ≤ 2 * length d → Fits (columnAsked fs) (sets d 0 (columnBytes fs)) (column create cellOf fs)
+unfolding column columnBytes orUnread size
+fits-column [] d h = unread-fits d
+fits-column (c ∷ vs) d h =
+    rw (each-values vs) (fits-both (small c) (each byteOf vs) (bytesOf vs) d (all-stored vs) (omega (arith, bytes-size vs)))
+
+-- ---- by the count of a word's numbers
+
+unfoldable pub byArity : ℕ → Word → List (List ℕ) → Request
+byArity zero w fs = unreadable
+byArity (suc zero) w fs = oneAsked w fs
+byArity (suc (suc zero)) w fs = twoAsked w fs
+byArity (suc (suc (suc zero))) w fs = threeAsked w fs
+byArity (suc (suc (suc (suc zero)))) w fs = columnAsked fs
+byArity (suc (suc (suc (suc (suc n))))) w fs = unreadable
+
+unfoldable pub bytesBy : ℕ → List (List ℕ) → List ℕ
+bytesBy zero fs = []
+bytesBy (suc zero) fs = []
+bytesBy (suc (suc zero)) fs = []
+bytesBy (suc (suc (suc zero))) fs = []
+bytesBy (suc (suc (suc (suc zero)))) fs = columnBytes fs
+bytesBy (suc (suc (suc (suc (suc n))))) fs = []
+
+fits-word : (w : Word) (fs : List (List ℕ)) (d : List ℕ) → size fs ≤ 2 * length d → Fits (byArity (arityOf w) w fs) (sets d 0 (bytesBy (arityOf w) fs)) (callOf w fs)
+unfolding byArity bytesBy arityOf callOf askedBy
+fits-word word.Column fs d h = fits-column fs d h
+fits-word word.Begin fs d h = fits-one word.Begin d (omega arith) begin (λ a. refl) (each number fs)
+fits-word word.Query fs d h = fits-two word.Query d (omega arith) (λ i v. query i v usualThreshold vectorWords) (λ a b. refl) (each number fs)
+fits-word word.Read fs d h = fits-two word.Read d (omega arith) read (λ a b. refl) (each number fs)
+fits-word word.Update fs d h = fits-three word.Update d (omega arith) update (λ a b c. refl) (each number fs)
+fits-word word.Delete fs d h = fits-two word.Delete d (omega arith) delete (λ a b. refl) (each number fs)
+fits-word word.Insert fs d h = fits-two word.Insert d (omega arith) insert (λ a b. refl) (each number fs)
+fits-word word.Commit fs d h = fits-one word.Commit d (omega arith) commit (λ a. refl) (each number fs)
+fits-word word.Tidy fs d h = fits-two word.Tidy d (omega arith) tidy (λ a b. refl) (each number fs)
+fits-word word.Abort fs d h = fits-one word.Abort d (omega arith) abort (λ a. refl) (each number fs)
+fits-word word.Unknown fs d h = unread-fits d
+
+stored-word : (w : Word) (fs : List (List ℕ)) → bytesBy (arityOf w) fs ≡ storedBy w fs
+unfolding bytesBy arityOf storedBy
+stored-word word.Column fs = refl
+stored-word word.Begin fs = refl
+stored-word word.Query fs = refl
+stored-word word.Read fs = refl
+stored-word word.Update fs = refl
+stored-word word.Delete fs = refl
+stored-word word.Insert fs = refl
+stored-word word.Commit fs = refl
+stored-word word.Tidy fs = refl
+stored-word word.Abort fs = refl
+stored-word word.Unknown fs = refl
+
+-- ---- the returns of `request`
+
+pub line-long : (line entry : List ℕ) (r : Request) → 8192 < length line → r ≡ unreadable → Requested line entry entry r
+unfolding parse lineBytes longestLine asked askedBy
+line-long line entry r h e =
+    record {
+      means = rw (lt-leb (length line) 8192 h, e);
+      bytes-are = rw (lt-leb (length line) 8192 h);
+      within = λ q. rw e (omega arith);
+    }
+
+module _ (line entry : List ℕ) (at n : ℕ) (w : Word) (short : length line ≤ 8192) (room : length line ≤ 2 * length entry)
+    (a : at ≡ endAt space line 0) (e : w ≡ wordOf (take at line)) (k : n ≡ arityOf w) where
+  by-arity : (exit : List ℕ) (r : Request) → r ≡ byArity n w (after space line at) → exit ≡ sets entry 0 (bytesBy n (after space line at)) → Requested line entry exit r
+  unfolding parse lineBytes fieldsCall fieldsBytes longestLine size
+  by-arity exit r q c =
+      let fs = after space line at in
+      let wo : w ≡ wordOf (upTo space line) = e ∙ rw (take-first space line at a) in
+      let s : split space line ≡ upTo space line ∷ fs = split-start space line at a in
+      let sz : length line + 1 ≡ size (upTo space line ∷ fs) = sym (size-split space line) ∙ ap size s in
+      let f : Fits (byArity (arityOf w) w fs) (sets entry 0 (bytesBy (arityOf w) fs)) (callOf w fs) = fits-word w fs entry (omega (arith, sz)) in
+      let g : Fits r exit (callOf w fs) = rw (q, c, k) f in
+      record {
+        means = g .means ∙ rw (le-leb (length line) 8192 short, s, wo, word-call (upTo space line) fs);
+        bytes-are = c ∙ rw (le-leb (length line) 8192 short, s, k, stored-word w fs, wo, word-stored (upTo space line) fs);
+        within = g .within;
+      }
+
+  module _ (r : Request) where
+    pub line-one : n ≡ 1 → r ≡ oneAsked w (after space line at) → Requested line entry entry r
+    unfolding byArity bytesBy
+    line-one i q = by-arity entry r (q ∙ rw i) (rw i)
+
+    pub line-two : n ≡ 2 → r ≡ twoAsked w (after space line at) → Requested line entry entry r
+    unfolding byArity bytesBy
+    line-two i q = by-arity entry r (q ∙ rw i) (rw i)
+
+    pub line-three : n ≡ 3 → r ≡ threeAsked w (after space line at) → Requested line entry entry r
+    unfolding byArity bytesBy
+    line-three i q = by-arity entry r (q ∙ rw i) (rw i)
+
+    pub line-column : (exit : List ℕ) → n ≡ 4 → Columned line at entry exit r → Requested line entry exit r
+    unfolding byArity bytesBy
+    line-column exit i q = by-arity exit r (q .request-is ∙ rw i) (q .bytes-are ∙ rw i)
+
+    pub line-unread : (n ≡ 1 → ⊥) → (n ≡ 2 → ⊥) → (n ≡ 3 → ⊥) → (n ≡ 4 → ⊥) → r ≡ unreadable → Requested line entry entry r
+    unfolding byArity bytesBy
+    line-unread i j l m q = by-arity entry r (q ∙ ask-none n i j l m) (store-none n i j l m)
+      where
+        ask-none : (n : ℕ) → (n ≡ 1 → ⊥) → (n ≡ 2 → ⊥) → (n ≡ 3 → ⊥) → (n ≡ 4 → ⊥) → unreadable ≡ byArity n w (after space line at)
+        ask-none zero i j l m = refl
+        ask-none (suc zero) i j l m = absurd (i refl)
+        ask-none (suc (suc zero)) i j l m = absurd (j refl)
+        ask-none (suc (suc (suc zero))) i j l m = absurd (l refl)
+        ask-none (suc (suc (suc (suc zero)))) i j l m = absurd (m refl)
+        ask-none (suc (suc (suc (suc (suc n))))) i j l m = refl
+
+        store-none : (n : ℕ) → (n ≡ 1 → ⊥) → (n ≡ 2 → ⊥) → (n ≡ 3 → ⊥) → (n ≡ 4 → ⊥) → entry ≡ sets entry 0 (bytesBy n (after space line at))
+        store-none zero i j l m = refl
+        store-none (suc zero) i j l m = absurd (i refl)
+        store-none (suc (suc zero)) i j l m = absurd (j refl)
+        store-none (suc (suc (suc zero))) i j l m = absurd (l refl)
+        store-none (suc (suc (suc (suc zero)))) i j l m = absurd (m refl)
+        store-none (suc (suc (suc (suc (suc n))))) i j l m = refl
+
+-- where the first field ends, there is a place of the line
+pub first-within : (line : List ℕ) (at : ℕ) → at ≡ endAt space line 0 → at ≤ length line
+first-within line at e = rw e (end-fits space line 0 (omega arith))

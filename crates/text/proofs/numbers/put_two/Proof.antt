@@ -1,0 +1,34 @@
+-- `text::numbers::put_two` meets its contract. Assumes nothing.
+use borrow.Author.Needs.{needs}
+use Rattle.text.proofs.WroteLaws.{wrote-two}
+use Rattle.text.proofs.numbers.put_two.Statement.{statement}
+use Rattle.text.proofs.numbers.put_two.Tie as tie
+
+glyph-requires : tie.Need-glyph-requires
+glyph-requires c κs = search needs
+
+put-byte-requires : tie.Need-put-byte-requires
+put-byte-requires c κs = search needs
+
+glyph-requires-2 : tie.Need-glyph-requires-2
+glyph-requires-2 c κs = search needs
+
+put-byte-requires-2 : tie.Need-put-byte-requires-2
+put-byte-requires-2 c κs = search needs
+
+same-length : tie.Need-same-length
+same-length c = search needs
+
+returns : tie.Need-returns
+returns c = search wrote-two
+
+pub put-two-spec : {M : Type 1} → statement M
+put-two-spec =
+    tie.close
+    (tie.spec
+    glyph-requires
+    put-byte-requires
+    glyph-requires-2
+    put-byte-requires-2
+    same-length
+    returns)
