@@ -13,10 +13,10 @@ use Rattle.tables.specs.Cells.{Tables}
 use Rattle.tables.specs.Room.{roomy}
 use Rattle.tables.specs.Damage.{sound}
 use Rattle.tables.specs.Meaning.{meaning}
-use Rattle.index.specs.Said.{Said, no, numbers, value, words}
-use Rattle.index.specs.Outcome.{Outcome, refusalAt, refusalOfCreate, unless}
-use Rattle.index.specs.Calls.{own, beginning, createOf, beginOf, readOf, updateOf, deleteOf, insertOf, commitOf, tidyOf, abortOf}
-use Rattle.index.specs.Query.{QueryOutcome, flipsSeen, asked, unlessAsked, queryOf}
+use Rattle.calls.specs.Said.{Said, no, numbers, value, words}
+use Rattle.calls.specs.Outcome.{Outcome, refusalAt, refusalOfCreate, unless}
+use Rattle.calls.specs.Calls.{own, beginning, createOf, beginOf, readOf, updateOf, deleteOf, insertOf, commitOf, tidyOf, abortOf}
+use Rattle.calls.specs.Query.{QueryOutcome, flipsSeen, asked, unlessAsked, queryOf}
 use Rattle.demands.specs.Asks.{Ask, create, begin, query, read, update, delete, insert, commit, tidy, abort, callOf, scratchOf, unlent, comesTo}
 use Rattle.demands.specs.Conditions.{noRoom, damaged, conditions}
 

@@ -15,7 +15,7 @@ use Rattle.rules.proofs.Tests.{AllFail, all-fail}
 use Rattle.rules.proofs.Numbers.{smallest-number}
 use Rattle.tables.specs.Cells.{Tables}
 use Rattle.tables.specs.Meaning.{meaning}
-use Rattle.index.specs.Calls.{columnOf}
+use Rattle.calls.specs.Calls.{columnOf}
 use Rattle.demands.specs.Asks as asks
 use Rattle.demands.specs.Asks.{Ask}
 use Rattle.demands.specs.Conditions.{noRoom, damaged, conditions}

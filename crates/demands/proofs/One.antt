@@ -9,8 +9,8 @@ use Prim.Native.Nat.{ℕ}
 use Rattle.rules.specs.Refusals.{firstOf}
 use Rattle.rules.proofs.Numbers.{first-number, number-first}
 use Rattle.tables.specs.Cells.{Tables}
-use Rattle.index.specs.Said.{no}
-use Rattle.index.specs.Query.{QueryOutcome, unlessAsked}
+use Rattle.calls.specs.Said.{no}
+use Rattle.calls.specs.Query.{QueryOutcome, unlessAsked}
 use Rattle.demands.specs.Asks.{Ask, scratchOf, comesTo}
 use Rattle.demands.specs.Conditions.{conditions}
 use Rattle.demands.specs.Demands.{RefusedRightly}

@@ -8,10 +8,10 @@ use lib.Dec.{eqb}
 use Rattle.rules.specs.Step.{step}
 use Rattle.tables.specs.Cells.{Tables}
 use Rattle.tables.specs.Meaning.{meaning}
-use Rattle.index.specs.Said.{Said}
-use Rattle.index.specs.Outcome.{Outcome, unless}
-use Rattle.index.specs.Calls.{own, beginning, createOf, beginOf, readOf, updateOf, deleteOf, insertOf, commitOf, tidyOf, abortOf}
-use Rattle.index.specs.Query.{queryOf}
+use Rattle.calls.specs.Said.{Said}
+use Rattle.calls.specs.Outcome.{Outcome, unless}
+use Rattle.calls.specs.Calls.{own, beginning, createOf, beginOf, readOf, updateOf, deleteOf, insertOf, commitOf, tidyOf, abortOf}
+use Rattle.calls.specs.Query.{queryOf}
 use Rattle.follow.proofs.Good.{Good}
 use Rattle.follow.proofs.Follows.{heardWith, heard, Follows}
 use Rattle.follow.proofs.Create.{create-follows}

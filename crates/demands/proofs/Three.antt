@@ -15,7 +15,7 @@ use Rattle.rules.proofs.Whole.{Whole, start-whole, step-whole}
 use Rattle.tables.specs.Cells.{Tables}
 use Rattle.tables.specs.Room.{roomy}
 use Rattle.tables.specs.Meaning.{meaning}
-use Rattle.index.specs.Calls.{columnOf, createOf}
+use Rattle.calls.specs.Calls.{columnOf, createOf}
 use Rattle.follow.proofs.Good.{Good}
 use Rattle.follow.proofs.Create.{create-creates}
 use Rattle.demands.specs.Asks.{Ask, query, read, commit, callOf, comesTo, told, tablesAfter, transcriptOf}

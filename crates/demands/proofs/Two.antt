@@ -12,8 +12,8 @@ use Rattle.rules.specs.Step.{created}
 use Rattle.tables.specs.Cells.{Tables}
 use Rattle.tables.specs.Room.{roomy}
 use Rattle.tables.specs.Meaning.{meaning}
-use Rattle.index.specs.Outcome.{refusalOfCreate, unless}
-use Rattle.index.specs.Calls.{columnOf, createOf}
+use Rattle.calls.specs.Outcome.{refusalOfCreate, unless}
+use Rattle.calls.specs.Calls.{columnOf, createOf}
 use Rattle.follow.proofs.Good.{Good}
 use Rattle.follow.proofs.Create.{create-creates}
 use Rattle.demands.specs.Asks.{create, begin, query, read, told, tablesAfter}

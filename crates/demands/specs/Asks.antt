@@ -6,9 +6,9 @@ use lib.ListN.{length}
 use Rattle.rules.specs.Calls.{Call, Answer}
 use Rattle.rules.specs.Calls as rules
 use Rattle.tables.specs.Cells.{Tables}
-use Rattle.index.specs.Outcome.{Outcome}
-use Rattle.index.specs.Calls.{createOf, beginOf, readOf, updateOf, deleteOf, insertOf, commitOf, tidyOf, abortOf, columnOf}
-use Rattle.index.specs.Query.{QueryOutcome, queryOutcome, queryOf}
+use Rattle.calls.specs.Outcome.{Outcome}
+use Rattle.calls.specs.Calls.{createOf, beginOf, readOf, updateOf, deleteOf, insertOf, commitOf, tidyOf, abortOf, columnOf}
+use Rattle.calls.specs.Query.{QueryOutcome, queryOutcome, queryOf}
 use Rattle.follow.proofs.Follows.{heardWith}
 use Rattle.follow.proofs.Query.{rowsPicked}
 

@@ -14,8 +14,8 @@ use Rattle.rules.specs.Plain.{Wish, sitting, Observer, seat, columnAt}
 use Rattle.rules.specs.Demand.{Overtaken, Right}
 use Rattle.rules.proofs.Numbers.{First}
 use Rattle.tables.specs.Cells.{Tables}
-use Rattle.index.specs.Said.{no}
-use Rattle.index.specs.Calls.{columnOf}
+use Rattle.calls.specs.Said.{no}
+use Rattle.calls.specs.Calls.{columnOf}
 use Rattle.follow.proofs.Good.{Good}
 use Rattle.demands.specs.Asks.{Ask, create, begin, query, read, commit, callOf, scratchOf, comesTo, told, tablesAfter}
 use Rattle.demands.specs.Conditions.{conditions}

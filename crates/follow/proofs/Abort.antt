@@ -11,9 +11,9 @@ use Rattle.tables.specs.Sessions.{freed}
 use Rattle.tables.specs.Meaning.{meaning}
 use Rattle.tables.proofs.Means.{length-entries}
 use Rattle.tables.proofs.Stores.{freed-means}
-use Rattle.index.specs.Said.{numbers}
-use Rattle.index.specs.Outcome.{outcome}
-use Rattle.index.specs.Calls.{own, reseated, abortOf}
+use Rattle.calls.specs.Said.{numbers}
+use Rattle.calls.specs.Outcome.{outcome}
+use Rattle.calls.specs.Calls.{own, reseated, abortOf}
 use Rattle.follow.proofs.Good.{Good, good-freed}
 use Rattle.follow.proofs.Follows.{Follows, follows}
 use Rattle.follow.proofs.Seated.{open-seat, seated-means}

@@ -23,9 +23,9 @@ use Rattle.tables.proofs.Facts.{last-rows}
 use Rattle.tables.proofs.Sessions.{OpenFacts}
 use Rattle.tables.proofs.Means.{stamp-means, rows-means, open-means, free-means}
 use Rattle.tables.proofs.Stores.{begun-means}
-use Rattle.index.specs.Said.{numbers}
-use Rattle.index.specs.Outcome.{outcome}
-use Rattle.index.specs.Calls.{own, reseated, beginning, beginOf}
+use Rattle.calls.specs.Said.{numbers}
+use Rattle.calls.specs.Outcome.{outcome}
+use Rattle.calls.specs.Calls.{own, reseated, beginning, beginOf}
 use Rattle.follow.proofs.Good.{Good, Wide, good-parts, good-seated}
 use Rattle.follow.proofs.Follows.{Follows, Meets, meets-by, follows}
 use Rattle.follow.proofs.Seated.{place-low, session-is, seated-means}

@@ -14,8 +14,8 @@ use Rattle.tables.specs.Cells.{Tables, tables, stampIn, rowsIn, slotsIn, change
 use Rattle.tables.specs.Sessions.{freed}
 use Rattle.tables.specs.Stores.{putSlot, putHead, putRecord}
 use Rattle.tables.specs.Meaning.{meaning, entries}
-use Rattle.index.specs.Stores.{clockCell, slotCell, headCell, seat, stores, wordStores}
-use Rattle.index.specs.Calls.{own, commitRows, commitStores, tidyStores}
+use Rattle.calls.specs.Stores.{clockCell, slotCell, headCell, seat, stores, wordStores}
+use Rattle.calls.specs.Calls.{own, commitRows, commitStores, tidyStores}
 use Rattle.follow.proofs.Stores.{putChanges, version-stores, log-stores}
 
 -- ---- commit

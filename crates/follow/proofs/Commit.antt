@@ -27,10 +27,10 @@ use Rattle.tables.proofs.Slots.{each-head}
 use Rattle.tables.proofs.Means.{stamp-means, rows-means, changes-means, length-entries}
 use Rattle.tables.proofs.Sessions.{freed-zero, session-made}
 use Rattle.tables.proofs.Stores.{length-record, freed-means, session-put}
-use Rattle.index.specs.Said.{numbers}
-use Rattle.index.specs.Stores.{stores}
-use Rattle.index.specs.Outcome.{outcome}
-use Rattle.index.specs.Calls.{own, commitRows, commitStores, commitOf}
+use Rattle.calls.specs.Said.{numbers}
+use Rattle.calls.specs.Stores.{stores}
+use Rattle.calls.specs.Outcome.{outcome}
+use Rattle.calls.specs.Calls.{own, commitRows, commitStores, commitOf}
 use Rattle.follow.proofs.Good.{Good, good-room, good-parts, sessions-set, all-wide-set, freed-wide}
 use Rattle.follow.proofs.Follows.{Follows, follows}
 use Rattle.follow.proofs.Seated.{Open, open-seat}

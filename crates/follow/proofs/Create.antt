@@ -28,9 +28,9 @@ use Rattle.tables.specs.Meaning.{meaning}
 use Rattle.tables.specs.Room.{roomy}
 use Rattle.tables.proofs.Facts.{Room, room-facts}
 use Rattle.lent.specs.Places.{length-freed-all, freed-all-at}
-use Rattle.index.specs.Said.{numbers}
-use Rattle.index.specs.Outcome.{Outcome, outcome, refusalOfCreate, unless}
-use Rattle.index.specs.Calls.{below, createdTables, columnOf, createOf}
+use Rattle.calls.specs.Said.{numbers}
+use Rattle.calls.specs.Outcome.{Outcome, outcome, refusalOfCreate, unless}
+use Rattle.calls.specs.Calls.{below, createdTables, columnOf, createOf}
 use Rattle.follow.proofs.Good.{Good}
 use Rattle.follow.proofs.Follows.{heard, Follows}
 use Rattle.follow.proofs.Fresh.{Fresh, past-absent, fresh-means, fresh-good}

@@ -9,7 +9,7 @@ use Rattle.rules.specs.Refusals.{tests}
 use Rattle.rules.specs.Step.{effect}
 use Rattle.tables.specs.Cells.{Tables}
 use Rattle.tables.proofs.Fits.{target-none}
-use Rattle.index.specs.Calls.{own, spotOf, listedAt, relisted, deleteOf}
+use Rattle.calls.specs.Calls.{own, spotOf, listedAt, relisted, deleteOf}
 use Rattle.follow.proofs.Good.{Good}
 use Rattle.follow.proofs.Follows.{Follows, follows}
 use Rattle.follow.proofs.Seated.{open-seat}

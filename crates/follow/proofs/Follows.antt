@@ -16,8 +16,8 @@ use Rattle.rules.proofs.Undamaged.{step-undamaged}
 use Rattle.tables.specs.Cells.{Tables}
 use Rattle.tables.specs.Meaning.{meaning}
 use Rattle.tables.proofs.Undamaged.{means-undamaged}
-use Rattle.index.specs.Said.{Said, no, numbers, value, words}
-use Rattle.index.specs.Outcome.{Outcome, refusalAt, unless}
+use Rattle.calls.specs.Said.{Said, no, numbers, value, words}
+use Rattle.calls.specs.Outcome.{Outcome, refusalAt, unless}
 use Rattle.follow.proofs.Good.{Good}
 
 -- what an answer says to the rules, where the words at a place show these rows

@@ -17,7 +17,7 @@ use Rattle.tables.specs.Cells.{Tables, valuesIn, firstIn, stampIn}
 use Rattle.tables.specs.Meaning.{entries, meaning}
 use Rattle.tables.proofs.Means.{length-entries}
 use Rattle.tables.proofs.Fits.{entry-add}
-use Rattle.index.specs.Calls.{own, listedAt, relisted, insertOf}
+use Rattle.calls.specs.Calls.{own, listedAt, relisted, insertOf}
 use Rattle.follow.proofs.Good.{Good}
 use Rattle.follow.proofs.Follows.{Follows, Meets, follows}
 use Rattle.follow.proofs.Seated.{value-low, Open, open-seat}

@@ -32,8 +32,8 @@ use Rattle.tables.proofs.Slots.{length-slotWords}
 use Rattle.tables.proofs.Tests.{and-both}
 use Rattle.history.specs.Version.{slotSeen}
 use Rattle.history.proofs.Meets.{seen-used, vector-meets}
-use Rattle.index.specs.Said.{words}
-use Rattle.index.specs.Query.{QueryOutcome, rowsSeen, flipsSeen, asked, unlessAsked, queryOf, pickedFrom}
+use Rattle.calls.specs.Said.{words}
+use Rattle.calls.specs.Query.{QueryOutcome, rowsSeen, flipsSeen, asked, unlessAsked, queryOf, pickedFrom}
 use Rattle.follow.proofs.Good.{Good, good-room, good-parts}
 use Rattle.follow.proofs.Follows.{heardWith, refusal-is, accepted}
 use Rattle.follow.proofs.Seated.{value-low}

@@ -8,9 +8,9 @@ use Rattle.rules.specs.Refusals.{readIn}
 use Rattle.rules.specs.Step.{effect}
 use Rattle.tables.specs.Cells.{Tables}
 use Rattle.tables.specs.Meaning.{meaning}
-use Rattle.index.specs.Said.{value}
-use Rattle.index.specs.Outcome.{outcome}
-use Rattle.index.specs.Calls.{readOf}
+use Rattle.calls.specs.Said.{value}
+use Rattle.calls.specs.Outcome.{outcome}
+use Rattle.calls.specs.Calls.{readOf}
 use Rattle.follow.proofs.Good.{Good}
 use Rattle.follow.proofs.Follows.{Follows, follows}
 

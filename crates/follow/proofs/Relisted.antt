@@ -22,7 +22,7 @@ use Rattle.tables.specs.Sessions.{withEntry}
 use Rattle.tables.specs.Meaning.{targetOf, entries, meaning}
 use Rattle.tables.proofs.Sessions.{OpenFacts, open-rows-few}
 use Rattle.tables.proofs.Means.{open-means, length-entries}
-use Rattle.index.specs.Calls.{own, spotOf, listedAt, relisted}
+use Rattle.calls.specs.Calls.{own, spotOf, listedAt, relisted}
 use Rattle.follow.proofs.Good.{Good, good-parts, good-seated}
 use Rattle.follow.proofs.Follows.{Meets, meets-by}
 use Rattle.follow.proofs.Seated.{Open, seated-means}

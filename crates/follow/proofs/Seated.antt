@@ -16,7 +16,7 @@ use Rattle.tables.proofs.Sessions.{OpenFacts, open-at}
 use Rattle.tables.proofs.Means.{values-means, session-means, open-means, live-means}
 use Rattle.tables.proofs.Stores.{session-put}
 use Rattle.lent.specs.Places.{seatAt}
-use Rattle.index.specs.Calls.{own, reseated}
+use Rattle.calls.specs.Calls.{own, reseated}
 use Rattle.follow.proofs.Good.{Good, Wide, good-room, good-parts}
 
 -- 4 fails: the number is one of the sixteen places

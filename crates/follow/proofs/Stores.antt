@@ -9,7 +9,7 @@ use lib.Seq.{sets}
 use Rattle.rules.specs.State.{Change}
 use Rattle.tables.specs.Cells.{Tables, tables}
 use Rattle.tables.specs.Stores.{putSlot, putHead, putRecord, putChange}
-use Rattle.index.specs.Stores.{Store, slotCell, wordCell, headCell, changeCell, store, stores, changeStores, recordStores, wordStores}
+use Rattle.calls.specs.Stores.{Store, slotCell, wordCell, headCell, changeCell, store, stores, changeStores, recordStores, wordStores}
 
 -- one group after another
 pub stores-append : (t : Tables) (a b : List Store) → stores t (a ++ b) ≡ stores (stores t a) b

@@ -31,10 +31,10 @@ use Rattle.tables.proofs.Facts.{Room, room-made, Parts, whole, clock-limits, cl
 use Rattle.tables.proofs.Means.{values-means, rows-means, stamp-means, slots-means, changes-means, chain-means}
 use Rattle.tables.proofs.Undamaged.{means-undamaged}
 use Rattle.tables.proofs.Stores.{length-slot, length-head, length-record}
-use Rattle.index.specs.Said.{numbers}
-use Rattle.index.specs.Stores.{stores}
-use Rattle.index.specs.Outcome.{outcome}
-use Rattle.index.specs.Calls.{own, tidyStores, tidyOf}
+use Rattle.calls.specs.Said.{numbers}
+use Rattle.calls.specs.Stores.{stores}
+use Rattle.calls.specs.Outcome.{outcome}
+use Rattle.calls.specs.Calls.{own, tidyStores, tidyOf}
 use Rattle.follow.proofs.Good.{Good, good-room, good-parts}
 use Rattle.follow.proofs.Follows.{Follows, follows}
 use Rattle.follow.proofs.Seated.{value-low, Open, open-seat}

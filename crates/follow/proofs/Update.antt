@@ -11,7 +11,7 @@ use Rattle.rules.specs.Step.{effect}
 use Rattle.tables.specs.Cells.{Tables}
 use Rattle.tables.proofs.Facts.{clock-limits}
 use Rattle.tables.proofs.Fits.{target-some}
-use Rattle.index.specs.Calls.{own, spotOf, listedAt, relisted, updateOf}
+use Rattle.calls.specs.Calls.{own, spotOf, listedAt, relisted, updateOf}
 use Rattle.follow.proofs.Good.{Good, good-parts}
 use Rattle.follow.proofs.Follows.{Follows, follows}
 use Rattle.follow.proofs.Seated.{value-low, open-seat}

@@ -1,0 +1,10 @@
+-- The laws of the definitions, of the shared refusals and of a session that is let in.
+-- Assumes nothing.
+pub mod AnswerLaws
+pub mod TestLaws
+pub mod EnterLaws
+pub mod Entered
+pub mod Serving
+pub mod StoreLaws
+pub mod ListLaws
+pub mod OpenLaws

@@ -1,0 +1,43 @@
+-- `enter::valued` meets its contract.
+-- Assumes nothing.
+use Rattle.calls.proofs.EnterLaws.{valued-stays, opened-clock, no-value, valued-passes}
+use borrow.Author.Needs.{needs}
+use Rattle.calls.proofs.enter.valued.Statement.{statement}
+use Rattle.calls.proofs.enter.valued.Tie as tie
+
+opened-requires : tie.Need-opened-requires
+opened-requires c κs = search needs
+
+enum-told : tie.Need-enum-told
+enum-told c = search needs
+
+enum-told-2 : tie.Need-enum-told-2
+enum-told-2 c = search needs
+
+returns : tie.Need-returns
+returns c = search valued-stays
+
+clock-of-requires : tie.Need-clock-of-requires
+clock-of-requires c κs = search opened-clock
+
+cast-if1 : tie.Need-cast-if1
+cast-if1 c = search needs
+
+returns-2 : tie.Need-returns-2
+returns-2 c = search no-value
+
+returns-3 : tie.Need-returns-3
+returns-3 c = search valued-passes
+
+pub valued-spec : {M : Type 1} → statement M
+valued-spec =
+    tie.close
+    (tie.spec
+    opened-requires
+    enum-told
+    enum-told-2
+    returns
+    clock-of-requires
+    cast-if1
+    returns-2
+    returns-3)

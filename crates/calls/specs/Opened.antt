@@ -1,0 +1,43 @@
+-- What a part of a core knows once the core is let in, and what it promises.
+-- Assumes nothing.
+use mathlib.Core.Path.{_≡_}
+use mathlib.Core.Bool.{true}
+use mathlib.Core.List.{List}
+use Prim.Native.Nat.{ℕ, _≤_, _<_}
+use lib.ListN.{replicate}
+use Rattle.tables.specs.declared.session.Session.{Session}
+use Rattle.tables.specs.Cells.{Tables, tables, stampIn}
+use Rattle.tables.specs.Sessions.{freed}
+use Rattle.tables.specs.Room.{roomy}
+use Rattle.tables.specs.Damage.{sound}
+use Rattle.calls.specs.declared.answers.Done.{Done}
+use Rattle.calls.specs.Said.{said}
+use Rattle.calls.specs.Outcome.{Outcome, outcome}
+use Rattle.calls.specs.Calls.{own}
+use Rattle.calls.specs.Seats.{resat}
+
+-- the number tables have room and are not damaged, as they are beside sixteen free sessions; the session's start, its row count
+-- and its number of entries are within reach
+pub record Usable (clock slots words heads log changes : List ℕ) (x : Session) : Type 0 where
+  pub room : roomy (tables clock slots words heads log changes (replicate 16 freed)) ≡ true
+  pub good : sound (tables clock slots words heads log changes (replicate 16 freed)) ≡ true
+  pub start-old : x .start .0 ≤ stampIn clock
+  pub rows-few : x .rows .0 ≤ 2048
+  pub count-low : x .count ≤ 32
+
+-- tables that are not refused by 1 and 2, and x their session n, which is open
+pub record OpenIn (t : Tables) (n : ℕ) (x : Session) : Type 0 where
+  pub room : roomy t ≡ true
+  pub good : sound t ≡ true
+  pub place-low : n < 16
+  pub own-there : own t n ≡ x
+  pub live-one : x .live ≡ 1
+
+-- What a part of a core promises where the session is open: the tables that it leaves, with its session put back, and its answer
+-- are what `call` says of the tables.
+abbrev pub Settles : (List Session → Tables) → (List Session → Tables) → (Tables → Outcome) → Session → ℕ → Done → Type 0
+Settles before after call x n d = (ts : List Session) → OpenIn (before ts) n x → outcome (resat (after ts) d) (said (d .answer)) ≡ call (before ts)
+
+-- the same of a part that has no table: of any tables
+abbrev pub SettlesAny : (Tables → Outcome) → Session → ℕ → Done → Type 0
+SettlesAny call x n d = (t : Tables) → OpenIn t n x → outcome (resat t d) (said (d .answer)) ≡ call t

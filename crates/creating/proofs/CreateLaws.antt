@@ -1,0 +1,255 @@
+-- Create: the column's test, the cells, the vectors and the clock of a new index, and what the call comes to.
+-- Assumes nothing.
+use mathlib.Core.Path.{_≡_, refl, sym, ap, ap₂, _∙_}
+use mathlib.Core.Bool.{Bool, true, false, not, cond, _&&_, _||_}
+use mathlib.Core.Option.{Option, none, some}
+use mathlib.Core.List.{List, [], _∷_, _++_, map}
+use mathlib.Core.Logic.{_⊎_, inl, inr, ⊎-elim}
+use Prim.Native.Nat.{ℕ, _+_, _-_, _≤_, _<_}
+use native.Mathlib.Omega.{arith}
+use native.Mathlib.Numerals.{add-one}
+use borrow.Author.Tests.{eq-eqb, ne-eqb, le-leb, lt-leb, lt-ltb, le-ltb, ltb-false, not-true, not-false}
+use lib.Dec.{eqb, leb, ltb}
+use lib.ListN.{length, getD, take, drop, set, replicate, length-map, length-replicate, getD-replicate, length-append, length-drop, List·getD-append}
+use lib.Seq.{sets, sets-eq, length-take-le, take-all, ext-getD, getD-append-add, getD-drop}
+use Rattle.bits.specs.Cases.{lt-cases, eq-cases}
+use Rattle.bits.specs.Tab.{tab, over, length-tab, getD-tab, tab-ext, length-over, Filled, filled-more}
+use Rattle.bits.specs.Vec.{vec, length-vec, bitAt-vec, vec-ext}
+use Rattle.bits.specs.Words.{bitAt}
+use Rattle.bits.specs.Column.{columnBit, valueOf}
+use Rattle.rules.specs.Limits.{maxValues, maxRows}
+use Rattle.rules.specs.Calls.{create}
+use Rattle.rules.specs.Refusals.{outside, someOutside, badColumn, tests}
+use Rattle.rules.proofs.Small.{or-parts}
+use Rattle.rules.proofs.Shapes.{someOf, some-passed}
+use Rattle.tables.specs.declared.session.Session.{Session}
+use Rattle.tables.specs.declared.refusal.Refusal.the-variants.{NoRoom, BadColumn}
+use Rattle.tables.specs.Cells.{Tables, tables}
+use Rattle.tables.specs.Stores.{putClock}
+use Rattle.tables.specs.Refusals.{numberOf}
+use Rattle.damage.specs.Room.{roomFor, Roomy}
+use Rattle.damage.proofs.RoomLaws.{room-is, room-lengths}
+use Rattle.lent.specs.Places.{freedAll}
+use Rattle.calls.specs.declared.answers.Answer.{Answer}
+use Rattle.calls.specs.declared.answers.Answer.the-variants.{No, Count}
+use Rattle.calls.specs.Said.{said, numbers, no}
+use Rattle.calls.specs.Outcome.{Outcome, outcome, refusalOfCreate, unless}
+use Rattle.calls.specs.Calls.{below, columnOf, createdTables, createOf}
+use Rattle.creating.specs.Create.{Creatable, Created}
+use Rattle.calls.specs.Seats.{Creates, accepted}
+
+-- ---- the column's test
+
+-- none of the first n bytes is neither below C nor 255
+unfoldable pub knownTo : ℕ → List ℕ → ℕ → Bool
+knownTo C col n = not (someOf (λ b. outside C (valueOf b)) (take n col))
+
+some-bytes : (C : ℕ) (col : List ℕ) → someOutside C (columnOf col) ≡ someOf (λ b. outside C (valueOf b)) col
+some-bytes C [] = refl
+some-bytes C (b ∷ col) = ap (λ (t : Bool). outside C (valueOf b) || t) (some-bytes C col)
+
+byte-known : (C b : ℕ) → not (outside C (valueOf b)) ≡ (ltb b C || eqb b 255)
+unfolding valueOf
+byte-known C b = go (eq-cases b 255)
+  where
+    at : (b < C) ⊎ (C ≤ b) → not (leb C b) ≡ (ltb b C || false)
+    at (inl l) = rw (lt-leb C b l, lt-ltb b C l)
+    at (inr l) = rw (le-leb C b l, le-ltb b C l)
+
+    or-true : (t : Bool) → true ≡ (t || true)
+    or-true true = refl
+    or-true false = refl
+
+    go : (b ≡ 255) ⊎ (b ≡ 255 → ⊥) → not (outside C (cond (eqb b 255) none (some b))) ≡ (ltb b C || eqb b 255)
+    go (inl e) = rw (eq-eqb b 255 e) (or-true (ltb b C))
+    go (inr n) = rw (ne-eqb b 255 n) (at (lt-cases b C))
+
+not-or : (a b : Bool) → not (a || b) ≡ (not a && not b)
+not-or true b = refl
+not-or false b = refl
+
+module _ (C : ℕ) (col : List ℕ) where
+  pub known-none : true ≡ knownTo C col 0
+  unfolding knownTo
+  known-none = refl
+
+  pub known-more : (r : ℕ) (ok : Bool) → r < length col → ok ≡ knownTo C col r
+      → ok && (ltb (getD col r 0) C || eqb (getD col r 0) 255) ≡ knownTo C col (r + 1)
+  unfolding knownTo
+  known-more r ok h e =
+      let p : ℕ → Bool = λ b. outside C (valueOf b) in
+      ap₂ (λ (x y : Bool). x && y) e (sym (byte-known C (getD col r 0))) ∙ sym (not-or (someOf p (take r col)) (p (getD col r 0)))
+      ∙ ap not (sym (some-passed p col r 0 h))
+
+  pub known-all : (r : ℕ) (ok : Bool) → ok ≡ knownTo C col r → length col ≤ r → ok ≡ not (someOutside C (columnOf col))
+  unfolding knownTo
+  known-all r ok e h =
+      e ∙ ap (λ (l : List ℕ). not (someOf (λ b. outside C (valueOf b)) l)) (take-all r col h) ∙ ap not (sym (some-bytes C col))
+
+  -- 3, sentence by sentence
+  pub bad-none : C ≡ 0 → true ≡ badColumn C (columnOf col)
+  unfolding badColumn
+  bad-none e = rw (eq-eqb C 0 e)
+
+  pub bad-many : (C ≡ 0 → ⊥) → 32 < C → true ≡ badColumn C (columnOf col)
+  unfolding badColumn maxValues
+  bad-many n h = rw (ne-eqb C 0 n, lt-ltb 32 C h)
+
+  pub bad-long : (C ≡ 0 → ⊥) → C ≤ 32 → 2048 < length col → true ≡ badColumn C (columnOf col)
+  unfolding badColumn maxValues maxRows
+  bad-long n h l = rw (ne-eqb C 0 n, le-ltb 32 C h, length-map col valueOf, lt-ltb 2048 (length col) l)
+
+  pub bad-bytes : (C ≡ 0 → ⊥) → C ≤ 32 → length col ≤ 2048 → (ok : Bool) → ok ≡ not (someOutside C (columnOf col)) → not ok ≡ badColumn C (columnOf col)
+  unfolding badColumn maxValues maxRows
+  bad-bytes n h l ok e =
+      ap not e ∙ not-not (someOutside C (columnOf col)) ∙ rw (ne-eqb C 0 n, le-ltb 32 C h, length-map col valueOf, le-ltb 2048 (length col) l)
+    where
+      not-not : (b : Bool) → not (not b) ≡ b
+      not-not true = refl
+      not-not false = refl
+
+  -- none of them
+  pub good-column : badColumn C (columnOf col) ≡ false → (C ≤ 32) × (length col ≤ 2048)
+  unfolding badColumn maxValues maxRows
+  good-column e =
+      let n = length (columnOf col) in
+      let p = or-parts (eqb C 0 || ltb 32 C || ltb 2048 n) (someOutside C (columnOf col)) e in
+      let q = or-parts (eqb C 0 || ltb 32 C) (ltb 2048 n) (p .0) in
+      let r = or-parts (eqb C 0) (ltb 32 C) (q .0) in
+      (ltb-false 32 C (r .1), omega (arith, ltb-false 2048 n (q .1), length-map col valueOf))
+
+-- ---- cells
+
+zeros-tab : (n : ℕ) → tab {A = ℕ} (λ i. 0) n ≡ replicate n 0
+zeros-tab n =
+    let z : ℕ → ℕ = λ i. 0 in
+    ext-getD 0 (tab z n) (replicate n 0) (length-tab z n ∙ sym (length-replicate n 0))
+    (λ i h. let l : i < n = omega (arith, length-tab z n) in getD-tab z n i 0 l ∙ sym (getD-replicate n i 0 0 l))
+
+-- a loop that has filled the first n cells
+pub filled-to : (g : ℕ → ℕ) (d₀ d : List ℕ) (i n : ℕ) → Filled g d₀ d i → i ≤ n → n ≤ i → d ≡ over (tab g n) d₀
+filled-to g d₀ d i n f h l = let e : i ≡ n = omega arith in f .sofar ∙ ap (λ (k : ℕ). over (tab g k) d₀) e
+
+pub zeros-to : (d₀ d : List ℕ) (i n : ℕ) → Filled (λ k. 0) d₀ d i → i ≤ n → n ≤ i → d ≡ over (replicate n 0) d₀
+zeros-to d₀ d i n f h l = filled-to (λ k. 0) d₀ d i n f h l ∙ ap (λ (z : List ℕ). over z d₀) (zeros-tab n)
+
+-- the cells of a list stored over another
+over-at : (l d : List ℕ) (i : ℕ) → i < length l → getD (over l d) i 0 ≡ getD l i 0
+over-at l d i h = List·getD-append l (drop (length l) d) 0 i h
+
+over-past : (l d : List ℕ) (i : ℕ) → length l ≤ i → getD (over l d) i 0 ≡ getD d i 0
+over-past l d i h =
+    let e : i ≡ length l + (i - length l) = omega arith in
+    ap (λ (k : ℕ). getD (over l d) k 0) e ∙ getD-append-add l (drop (length l) d) (i - length l) 0 ∙ getD-drop (length l) d (i - length l) 0
+    ∙ ap (λ (k : ℕ). getD d k 0) (sym e)
+
+-- a cell that becomes 0
+pub zero-more : (d₀ d : List ℕ) (i n : ℕ) → Filled (λ k. 0) d₀ d i → i < n → n ≤ length d₀ → Filled (λ k. 0) d₀ (set d i 0) (i + 1)
+zero-more d₀ d i n f h l = filled-more (λ k. 0) f (omega (arith, f .same)) refl
+
+-- a cell that gets its own number
+pub number-more : (d₀ d : List ℕ) (v c i : ℕ) → Filled (λ k. k) d₀ d v → v < c → c ≤ length d₀ → i ≡ v → Filled (λ k. k) d₀ (set d i v) (v + 1)
+number-more d₀ d v c i f h l e =
+    rw e (filled-more (λ k. k) f (omega (arith, f .same)) refl)
+
+-- numbers over zeros
+pub number-zeros : (c n : ℕ) (s z m : List ℕ) → c ≤ n → n ≤ length s → z ≡ over (replicate n 0) s → m ≡ over (tab (λ i. i) c) z → m ≡ over (tab (below c) n) s
+number-zeros c n s z m h l e q =
+    q ∙ ap (over (tab (λ i. i) c)) e
+    ∙ ext-getD 0 (over (tab (λ i. i) c) (over (replicate n 0) s)) (over (tab (below c) n) s) (long ∙ sym whole) (λ i k. at i (lt-cases i c) (lt-cases i n))
+  where
+    zeros : length (over (replicate n 0) s) ≡ length s
+    zeros = length-over (replicate n 0) s (omega (arith, length-replicate {A = ℕ} n 0))
+
+    long : length (over (tab (λ i. i) c) (over (replicate n 0) s)) ≡ length s
+    long = length-over (tab (λ i. i) c) (over (replicate n 0) s) (omega (arith, zeros, length-tab {A = ℕ} (λ i. i) c)) ∙ zeros
+
+    whole : length (over (tab (below c) n) s) ≡ length s
+    whole = length-over (tab (below c) n) s (omega (arith, length-tab (below c) n))
+
+    at : (i : ℕ) → (i < c) ⊎ (c ≤ i) → (i < n) ⊎ (n ≤ i) → getD (over (tab (λ i. i) c) (over (replicate n 0) s)) i 0 ≡ getD (over (tab (below c) n) s) i 0
+    at i (inl a) (inl b) =
+        over-at (tab (λ i. i) c) (over (replicate n 0) s) i (omega (arith, length-tab {A = ℕ} (λ i. i) c)) ∙ getD-tab (λ i. i) c i 0 a
+        ∙ sym (over-at (tab (below c) n) s i (omega (arith, length-tab (below c) n)) ∙ getD-tab (below c) n i 0 b ∙ ap (λ (t : Bool). cond t i 0) (lt-ltb i c a))
+    at i (inl a) (inr b) = absurd (omega arith)
+    at i (inr a) (inl b) =
+        over-past (tab (λ i. i) c) (over (replicate n 0) s) i (omega (arith, length-tab {A = ℕ} (λ i. i) c))
+        ∙ over-at (replicate n 0) s i (omega (arith, length-replicate {A = ℕ} n 0)) ∙ getD-replicate n i 0 0 b
+        ∙ sym (over-at (tab (below c) n) s i (omega (arith, length-tab (below c) n)) ∙ getD-tab (below c) n i 0 b ∙ ap (λ (t : Bool). cond t i 0) (le-ltb i c a))
+    at i (inr a) (inr b) =
+        over-past (tab (λ i. i) c) (over (replicate n 0) s) i (omega (arith, length-tab {A = ℕ} (λ i. i) c))
+        ∙ over-past (replicate n 0) s i (omega (arith, length-replicate {A = ℕ} n 0))
+        ∙ sym (over-past (tab (below c) n) s i (omega (arith, length-tab (below c) n)))
+
+-- ---- vectors and the clock
+
+pub columns-written : (p z d col : List ℕ) → z ≡ vec (λ r. false) (length p) → d ≡ vec (λ q. bitAt z q || columnBit col q) (length z)
+    → d ≡ vec (columnBit col) (length p)
+columns-written p z d col e q =
+    let n : length z ≡ length p = ap length e ∙ length-vec (λ r. false) (length p) in
+    q
+    ∙ ap (vec (λ q. bitAt z q || columnBit col q)) n
+    ∙ vec-ext (λ q. bitAt z q || columnBit col q) (columnBit col) (length p)
+    (λ r l. ap (λ (t : Bool). t || columnBit col r) (ap (λ (w : List ℕ). bitAt w r) e ∙ bitAt-vec (λ r. false) (length p) r l))
+
+-- the first n words
+words-made : (f : ℕ → Bool) (n : ℕ) (d words : List ℕ) → n ≤ length words → d ≡ vec f (length (take n words)) → d ++ drop n words ≡ over (vec f n) words
+words-made f n d words h e =
+    ap₂ (λ (x : List ℕ) (k : ℕ). x ++ drop k words) (e ∙ ap (vec f) (length-take-le n words h)) (sym (length-vec f n))
+
+clock-made : (clock : List ℕ) (c rows : ℕ) → 6 ≤ length clock → putClock clock c rows 0 rows c 0 ≡ over (c ∷ rows ∷ 0 ∷ rows ∷ c ∷ 0 ∷ []) clock
+unfolding putClock
+clock-made clock c rows h = sets-eq (c ∷ rows ∷ 0 ∷ rows ∷ c ∷ 0 ∷ []) clock 0 h
+
+-- ---- the call
+
+module _ (clock slots words heads log changes : List ℕ) where
+  -- the words that are lent to be filled
+  module _ (c : ℕ) (col : List ℕ) (f : Creatable clock slots words heads log changes c col) where
+    pub front-length : 3072 ≡ length (take 3072 words)
+    front-length = sym (length-take-le 3072 words (f .room .words-room))
+
+    pub front-needs : (1024 ≤ length (take 3072 words)) × (length col ≤ 2048)
+    front-needs = (omega (arith, front-length), f .few-rows)
+
+  pub create-made : (clock′ slots′ d heads′ log′ changes′ col : List ℕ) (c rows : ℕ) → Creatable clock slots words heads log changes c col
+      → rows ≡ length col → slots′ ≡ over (tab (below c) 288) slots → heads′ ≡ over (tab (below c) 32) heads → log′ ≡ over (replicate 2048 0) log
+      → changes′ ≡ over (replicate 4096 0) changes → d ≡ vec (columnBit col) (length (take 3072 words)) → clock′ ≡ putClock clock c rows 0 rows c 0
+      → Created (tables clock slots words heads log changes) (tables clock′ slots′ (d ++ drop 3072 words) heads′ log′ changes′) c col (Count rows)
+  create-made clock′ slots′ d heads′ log′ changes′ col c rows f n es eh el ec ew ek = record {
+    made = λ ts. rw (es, eh, el, ec, ek, words-made (columnBit col) 3072 d words (f .room .words-room) ew, n, clock-made clock c (length col) (f .room .clock-room));
+    answers = ap Count n;
+  }
+
+  module _ (places c : ℕ) (col : List ℕ) where
+    abbrev before : List Session → Tables
+    before = tables clock slots words heads log changes
+
+    -- "1": and nothing changes
+    pub create-no-room : (r : Bool) → r ≡ roomFor clock slots words heads log changes places → not r ≡ true
+        → Creates before before (λ t. createOf t c col) places (No NoRoom)
+    unfolding createOf refusalOfCreate unless
+    create-no-room r e h = λ ts q. rw (sym (room-is (before ts) places q), sym e, not-true r h)
+
+    -- "3": and nothing changes
+    module _ (r : Bool) (e : r ≡ roomFor clock slots words heads log changes places) (h : not r ≡ false) where
+      roomy-is : roomFor clock slots words heads log changes places ≡ true
+      roomy-is = sym e ∙ not-false r h
+
+      pub create-refused : (b : Bool) → b ≡ badColumn c (columnOf col) → b ≡ true → Creates before before (λ t. createOf t c col) places (No BadColumn)
+      unfolding createOf refusalOfCreate unless tests
+      create-refused b p k = λ ts q. rw (sym (room-is (before ts) places q), roomy-is, sym p, k)
+
+      module _ (b : Bool) (p : b ≡ badColumn c (columnOf col)) (k : b ≡ false) where
+        -- what the work needs
+        pub creatable : Creatable clock slots words heads log changes c col
+        creatable =
+            let g = good-column c col (sym p ∙ k) in
+            record { room = room-lengths clock slots words heads log changes places roomy-is; few-values = g .0; few-rows = g .1 }
+
+        pub values-fit : c < 4294967296
+        values-fit = omega (arith, creatable .few-values)
+
+        pub create-done : (after : List Session → Tables) (a : Answer) → Created before after c col a → Creates before after (λ t. createOf t c col) places a
+        unfolding createOf refusalOfCreate unless tests
+        create-done after a f = λ ts q. rw (f .answers, f .made ts, sym (room-is (before ts) places q), roomy-is, sym p, k)

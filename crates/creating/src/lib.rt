@@ -1,0 +1,4 @@
+// The core of create. Assumes nothing.
+mod create;
+
+pub use create::create_in;

@@ -1,0 +1,96 @@
+-- Begin and abort: what each of their ends comes to.
+-- Assumes nothing.
+use mathlib.Core.Path.{_≡_, refl, sym, ap, _∙_}
+use mathlib.Core.Bool.{Bool, cond}
+use mathlib.Core.List.{List, [], _∷_}
+use Prim.Native.Nat.{ℕ, _≤_}
+use borrow.Author.Tests.{eq-eqb, ne-eqb}
+use lib.ListN.{length}
+use Rattle.rules.specs.Calls.{begin, abort}
+use Rattle.rules.specs.Refusals.{tests}
+use Rattle.tables.specs.declared.clock.Clock.{Clock}
+use Rattle.tables.specs.declared.session.Session.{Session}
+use Rattle.tables.specs.declared.refusal.Refusal.{Refusal}
+use Rattle.tables.specs.Cells.{Tables, tables, stampIn, rowsIn}
+use Rattle.tables.specs.Clock.{clockIn}
+use Rattle.tables.specs.Sessions.{freed, begun}
+use Rattle.tables.proofs.Facts.{room-facts}
+use Rattle.lent.specs.declared.seats.Seat.{Seat}
+use Rattle.calls.specs.declared.answers.Done.{Done}
+use Rattle.calls.specs.declared.answers.Answer.the-variants.{Count, At}
+use Rattle.calls.specs.declared.enter.Test as asked
+use Rattle.calls.specs.declared.enter.Test.the-variants.{Passed, No}
+use Rattle.calls.specs.Said.{numbers, said}
+use Rattle.calls.specs.Outcome.{Outcome, outcome}
+use Rattle.calls.specs.Calls.{own, reseated, beginning, beginOf, abortOf}
+use Rattle.calls.specs.Seats.{seatOf, plainly, refusing, seating, Serves}
+use Rattle.calls.specs.Enter.{whyOf, placedBy, openedBy}
+use Rattle.calls.proofs.Entered.{bare, placed-passed, placed-goes, opened-goes, opened-passed, own-seat}
+use Rattle.calls.proofs.Serving.{plainly-resat, seating-resat, accepted-outcome, placed-refused, opened-refused}
+
+module _ (clock slots words heads log changes : List ℕ) (x : Seat) (n : ℕ) (test : asked.Test) where
+  abbrev lent : List Session → Tables
+  lent = tables clock slots words heads log changes
+
+  -- ---- begin
+
+  module _ (q : whyOf test ≡ placedBy clock slots words heads log changes (x .places) (x .fit) n) where
+    pub begin-refused : (why : Refusal) (d : Done) → test ≡ No why → d ≡ refusing why → Serves lent lent (λ t. beginOf t n) x n d
+    unfolding beginOf tests
+    begin-refused why d h k =
+        placed-refused clock slots words heads log changes x n (begin n) (λ t. beginning t n (own t n)) test why h d k (λ t. []) (λ t. refl) q
+
+    module _ (h : test ≡ Passed) where
+      pub begin-clock : 6 ≤ length clock
+      begin-clock =
+          room-facts (bare clock slots words heads log changes) (placed-passed clock slots words heads log changes x n test h q .room) .clock-room
+
+      -- an accepted begin, of the session that the seat has
+      accepted : (ts : List Session) → x ≡ seatOf (lent ts) n → beginOf (lent ts) n ≡ beginning (lent ts) n (x .session)
+      unfolding beginOf tests
+      accepted ts e =
+          let t = lent ts in
+          accepted-outcome t (begin n) (beginning t n (own t n)) (placed-goes t n x e (begin n) [] test refl q h .rest-decides)
+          ∙ ap (beginning t n) (sym (own-seat t n x e))
+
+      pub begin-again : (d : Done) → x .session .live ≡ 1 → d ≡ plainly (At (x .session .start) (x .session .rows .0)) → Serves lent lent (λ t. beginOf t n) x n d
+      unfolding beginning
+      begin-again d l k ts e =
+          let t = lent ts in
+          let o = outcome t (numbers (x .session .start .0 ∷ x .session .rows .0 ∷ [])) in
+          plainly-resat t d (At (x .session .start) (x .session .rows .0)) k
+          ∙ ap (λ (b : Bool). cond b o (outcome (reseated t n (begun (clockIn clock .stamp) (clockIn clock .rows))) (numbers (stampIn clock ∷ rowsIn clock ∷ []))))
+          (sym (eq-eqb (x .session .live) 1 l))
+          ∙ sym (accepted ts e)
+
+      pub begin-new : (c : Clock) (s : Session) (d : Done) → (x .session .live ≡ 1 → ⊥) → c ≡ clockIn clock → s ≡ begun (c .stamp) (c .rows)
+          → d ≡ seating (At (c .stamp) (c .rows .0)) n s → Serves lent lent (λ t. beginOf t n) x n d
+      unfolding beginning clockIn
+      begin-new c s d l p r k ts e =
+          let t = lent ts in
+          let o = outcome t (numbers (x .session .start .0 ∷ x .session .rows .0 ∷ [])) in
+          seating-resat t d (At (c .stamp) (c .rows .0)) n s (placed-passed clock slots words heads log changes x n test h q .place-low) k
+          ∙ ap (λ (y : Session). outcome (reseated t n y) (said (At (c .stamp) (c .rows .0)))) r
+          ∙ ap (λ (z : Clock). outcome (reseated t n (begun (z .stamp) (z .rows))) (said (At (z .stamp) (z .rows .0)))) p
+          ∙ ap (λ (b : Bool). cond b o (outcome (reseated t n (begun (clockIn clock .stamp) (clockIn clock .rows))) (numbers (stampIn clock ∷ rowsIn clock ∷ []))))
+          (sym (ne-eqb (x .session .live) 1 l))
+          ∙ sym (accepted ts e)
+
+  -- ---- abort
+
+  module _ (q : whyOf test ≡ openedBy clock slots words heads log changes x n) where
+    abbrev dropped : Tables → Outcome
+    dropped t = outcome (reseated t n freed) (numbers (own t n .count ∷ []))
+
+    pub abort-refused : (why : Refusal) (d : Done) → test ≡ No why → d ≡ refusing why → Serves lent lent (λ t. abortOf t n) x n d
+    unfolding abortOf tests
+    abort-refused why d h k = opened-refused clock slots words heads log changes x n (abort n) dropped test why h d k (λ t. []) (λ t. refl) q
+
+    pub abort-frees : (s : Session) (d : Done) → test ≡ Passed → s ≡ freed → d ≡ seating (Count (x .session .count)) n s → Serves lent lent (λ t. abortOf t n) x n d
+    unfolding abortOf tests
+    abort-frees s d h r k ts e =
+        let t = lent ts in
+        seating-resat t d (Count (x .session .count)) n s (opened-passed clock slots words heads log changes x n test h q .place-low) k
+        ∙ ap (λ (y : Session). outcome (reseated t n y) (numbers (x .session .count ∷ []))) r
+        ∙ ap (λ (y : Session). outcome (reseated t n freed) (numbers (y .count ∷ []))) (own-seat t n x e)
+        ∙ sym (accepted-outcome t (abort n) (dropped t) (opened-goes t n x e (abort n) [] test refl q h .rest-decides))

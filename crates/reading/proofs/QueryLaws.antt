@@ -1,0 +1,148 @@
+-- Query: what each of its ends comes to.
+-- Assumes nothing.
+use mathlib.Core.Path.{_≡_, refl, sym, ap, ap₂, _∙_}
+use mathlib.Core.Bool.{Bool, false, cond}
+use mathlib.Core.Option.{Option, none, some}
+use mathlib.Core.List.{List, [], _∷_}
+use Prim.Native.Nat.{ℕ, _≤_, _<_}
+use borrow.Author.Tests.{eq-eqb, ne-eqb, lt-ltb, le-ltb}
+use lib.Dec.{eqb, ltb}
+use lib.ListN.{length}
+use Rattle.bits.specs.Tab.{over}
+use Rattle.bits.specs.Vec.{vec}
+use Rattle.rules.specs.Limits.{vectorWords}
+use Rattle.rules.specs.State.{session, startOf}
+use Rattle.rules.specs.Calls.{query}
+use Rattle.rules.specs.Refusals.{tests, shortScratch}
+use Rattle.tables.specs.declared.session.Session.{Session}
+use Rattle.tables.specs.declared.refusal.Refusal.{Refusal}
+use Rattle.tables.specs.declared.refusal.Refusal.the-variants.{ShortScratch}
+use Rattle.tables.specs.Refusals.{numberOf}
+use Rattle.tables.specs.Cells.{Tables, tables}
+use Rattle.tables.specs.Meaning.{meaning}
+use Rattle.history.specs.declared.query.Found.{Found}
+use Rattle.history.specs.Version.{slotSeen, baseSeen}
+use Rattle.history.specs.Query.{frontFilled, foundAt, scratchAt, Ready}
+use Rattle.history.proofs.Ready.{ready}
+use Rattle.history.proofs.Meets.{count-meets, scratch-meets}
+use Rattle.lent.specs.Places.{putAt}
+use Rattle.lent.specs.declared.seats.Seat.{Seat}
+use Rattle.calls.specs.declared.answers.Done.{Done}
+use Rattle.calls.specs.declared.answers.Place.the-variants.{Slot, Scratch}
+use Rattle.calls.specs.declared.answers.Answer.{Answer}
+use Rattle.calls.specs.declared.answers.Answer.the-variants as answer
+use Rattle.calls.specs.declared.enter.Test as asked
+use Rattle.calls.specs.declared.enter.Test.the-variants.{Passed, No}
+use Rattle.calls.specs.Said.{said}
+use Rattle.calls.specs.Said as says
+use Rattle.calls.specs.Outcome.{refusalAt}
+use Rattle.calls.specs.Query.{QueryOutcome, queryOutcome, rowsSeen, flipsSeen, unlessAsked, queryOf}
+use Rattle.calls.specs.Query as query
+use Rattle.calls.specs.Seats.{seatOf, plainly, refusing, resat, Asks}
+use Rattle.calls.specs.Enter.{whyOf, valuedBy}
+use Rattle.calls.proofs.Entered.{bare, Goes, Shows, Valued, valued-passed, valued-refuses, valued-goes, valued-shows}
+
+-- ---- the tables, the scratch and the answer after each end
+
+plainly-asked : (t : Tables) (ws : List ℕ) (d : Done) (a : Answer) → d ≡ plainly a → queryOutcome (resat t d) ws (said (d .answer)) ≡ queryOutcome t ws (said a)
+unfolding plainly putAt
+plainly-asked t ws d a e = ap (λ (y : Done). queryOutcome (resat t y) ws (said (y .answer))) e
+
+refused-asked : (t : Tables) (ws : List ℕ) (w : Option ℕ) (o : QueryOutcome) (why : Refusal) (d : Done) → w ≡ some (numberOf why) → d ≡ refusing why
+    → queryOutcome (resat t d) ws (said (d .answer)) ≡ unlessAsked w t ws o
+unfolding unlessAsked refusing
+refused-asked t ws w o why d r e = plainly-asked t ws d (answer.No why) e ∙ ap (λ (u : Option ℕ). unlessAsked u t ws o) (sym r)
+
+accepted-asked : (t : Tables) (ws : List ℕ) (w : Option ℕ) (o : QueryOutcome) → w ≡ none → unlessAsked w t ws o ≡ o
+unfolding unlessAsked
+accepted-asked t ws w o r = ap (λ (u : Option ℕ). unlessAsked u t ws o) r
+
+module _ (clock slots words heads log changes scratch : List ℕ) (x : Seat) (n v threshold : ℕ) (test : asked.Test)
+    (q : whyOf test ≡ valuedBy clock slots words heads log changes x n v) where
+  abbrev lent : List Session → Tables
+  lent = tables clock slots words heads log changes
+
+  -- what a query leaves, that scratch being at its end
+  abbrev Answers : List ℕ → Done → Type 0
+  Answers after d = Asks lent scratch after (λ t ws. queryOf t ws n v threshold) x n d
+
+  pub query-refused : (why : Refusal) (d : Done) → test ≡ No why → d ≡ refusing why → Answers scratch d
+  unfolding queryOf tests
+  query-refused why d h k ts e =
+      let t = lent ts in
+      let c = query n v threshold (length scratch) in
+      refused-asked t scratch (refusalAt t c) (query.asked t scratch (startOf (session (meaning t) n)) v threshold) why d
+      (valued-refuses t n x e c (shortScratch (length scratch) ∷ []) test v refl q why h) k
+
+  module _ (h : test ≡ Passed) where
+    passed : Valued clock slots words heads log changes (x .session) n v
+    passed = valued-passed clock slots words heads log changes x n test h v q
+
+    pub query-ready : 32 ≤ length scratch → Ready slots words heads log changes scratch (x .session .start .0) v
+    query-ready l =
+        ready (bare clock slots words heads log changes) (passed .room) (passed .good) (x .session .start .0) (passed .start-old) v (passed .value-low) scratch l
+
+    module _ (ts : List Session) (e : x ≡ seatOf (lent ts) n) where
+      went : Goes (lent ts) (query n v threshold (length scratch)) (shortScratch (length scratch) ∷ [])
+      unfolding tests
+      went = valued-goes (lent ts) n x e (query n v threshold (length scratch)) (shortScratch (length scratch) ∷ []) test v refl q h
+
+      shown : Shows (lent ts) n (x .session)
+      unfolding tests
+      shown = valued-shows (lent ts) n x e (query n v threshold (length scratch)) (shortScratch (length scratch) ∷ []) test v refl q h
+
+    pub query-short : (d : Done) → length scratch < 32 → d ≡ refusing ShortScratch → Answers scratch d
+    unfolding queryOf vectorWords
+    query-short d l k ts e =
+        let t = lent ts in
+        refused-asked t scratch (refusalAt t (query n v threshold (length scratch))) (query.asked t scratch (startOf (session (meaning t) n)) v threshold)
+        ShortScratch d (went ts e .rest-decides ∙ ap (λ (b : Bool). cond b (some 10) none) (lt-ltb (length scratch) 32 l)) k
+
+    module _ (l : 32 ≤ length scratch) (f : Found) (p : f ≡ foundAt slots heads log changes (x .session .start .0) v) (after : List ℕ)
+        (w : after ≡ scratchAt slots words heads log changes scratch (x .session .start .0) v) where
+      abbrev start : ℕ
+      start = x .session .start .0
+
+      module _ (ts : List Session) (e : x ≡ seatOf (lent ts) n) where
+        accepted : queryOf (lent ts) scratch n v threshold ≡ query.asked (lent ts) scratch start v threshold
+        unfolding queryOf vectorWords
+        accepted =
+            let t = lent ts in
+            accepted-asked t scratch (refusalAt t (query n v threshold (length scratch))) (query.asked t scratch (startOf (session (meaning t) n)) v threshold)
+            (went ts e .rest-decides ∙ ap (λ (b : Bool). cond b (some 10) none) (le-ltb (length scratch) 32 l))
+            ∙ ap (λ (s : ℕ). query.asked t scratch s v threshold) (shown ts e .start-means)
+
+        flips-are : f .flips ≡ flipsSeen (lent ts) start v
+        flips-are =
+            ap (λ (g : Found). g .flips) p ∙ count-meets (lent ts) (went ts e .good) start (shown ts e .facts .start-old) v (passed .value-low)
+
+        scratch-is : after ≡ cond (eqb (flipsSeen (lent ts) start v) 0) scratch (over (vec (rowsSeen (lent ts) start v) 32) scratch)
+        unfolding frontFilled
+        scratch-is = w ∙ scratch-meets (lent ts) (went ts e .good) start (shown ts e .facts .start-old) v (passed .value-low) scratch
+
+      -- no row is flipped: the slot's own words
+      pub query-own : (d : Done) → f .flips ≡ 0 → d ≡ plainly (answer.Listed 0 false (Slot (f .slot))) → Answers after d
+      unfolding foundAt baseSeen query.asked
+      query-own d z k ts e =
+          let t = lent ts in
+          let none-flipped = eq-eqb (flipsSeen t start v) 0 (sym (flips-are ts e) ∙ z) in
+          plainly-asked t after d (answer.Listed 0 false (Slot (f .slot))) k
+          ∙ ap₂ (λ (ws : List ℕ) (i : ℕ). queryOutcome t ws (says.words 0 false (some i)))
+          (scratch-is ts e ∙ ap (λ (b : Bool). cond b scratch (over (vec (rowsSeen t start v) 32) scratch)) none-flipped)
+          (ap (λ (g : Found). g .slot) p)
+          ∙ ap (λ (b : Bool). cond b (queryOutcome t scratch (says.words 0 false (some (slotSeen slots heads start v))))
+          (queryOutcome t (over (vec (rowsSeen t start v) 32) scratch) (says.words (flipsSeen t start v) (ltb threshold (flipsSeen t start v)) none))) (sym none-flipped)
+          ∙ sym (accepted ts e)
+
+      -- some are: the scratch's
+      pub query-copied : (d : Done) → (f .flips ≡ 0 → ⊥) → d ≡ plainly (answer.Listed (f .flips) (ltb threshold (f .flips)) Scratch) → Answers after d
+      unfolding query.asked
+      query-copied d z k ts e =
+          let t = lent ts in
+          let some-flipped = ne-eqb (flipsSeen t start v) 0 (λ y. z (flips-are ts e ∙ y)) in
+          plainly-asked t after d (answer.Listed (f .flips) (ltb threshold (f .flips)) Scratch) k
+          ∙ ap₂ (λ (ws : List ℕ) (m : ℕ). queryOutcome t ws (says.words m (ltb threshold m) none))
+          (scratch-is ts e ∙ ap (λ (b : Bool). cond b scratch (over (vec (rowsSeen t start v) 32) scratch)) some-flipped) (flips-are ts e)
+          ∙ ap (λ (b : Bool). cond b (queryOutcome t scratch (says.words 0 false (some (slotSeen slots heads start v))))
+          (queryOutcome t (over (vec (rowsSeen t start v) 32) scratch) (says.words (flipsSeen t start v) (ltb threshold (flipsSeen t start v)) none))) (sym some-flipped)
+          ∙ sym (accepted ts e)

@@ -1,0 +1,98 @@
+-- Read: what each of its ends comes to.
+-- Assumes nothing.
+use mathlib.Core.Path.{_≡_, refl, sym, ap, subst, _∙_}
+use mathlib.Core.Bool.{Bool, cond}
+use mathlib.Core.Option.{Option, none, some}
+use mathlib.Core.List.{List, [], _∷_}
+use Prim.Native.Nat.{ℕ, _≤_, _<_}
+use borrow.Author.Tests.{le-leb, lt-leb}
+use lib.Dec.{leb}
+use lib.ListN.{length}
+use Rattle.rules.specs.State.{session}
+use Rattle.rules.specs.Versions.{readAt}
+use Rattle.rules.specs.Calls.{read}
+use Rattle.rules.specs.Refusals.{tests, noRow, readIn}
+use Rattle.tables.specs.declared.clock.Clock.{Clock}
+use Rattle.tables.specs.declared.session.Session.{Session}
+use Rattle.tables.specs.declared.refusal.Refusal.{Refusal}
+use Rattle.tables.specs.declared.refusal.Refusal.the-variants.{NoRow}
+use Rattle.tables.specs.Cells.{Tables, tables}
+use Rattle.tables.specs.Clock.{clockIn}
+use Rattle.tables.specs.Meaning.{meaning}
+use Rattle.tables.proofs.Facts.{room-facts}
+use Rattle.history.specs.declared.read.Standing.{Standing}
+use Rattle.history.specs.Read.{standingOf, readCells, ReadReady}
+use Rattle.history.proofs.Ready.{read-ready}
+use Rattle.history.proofs.Meets.{read-meets}
+use Rattle.lent.specs.declared.seats.Seat.{Seat}
+use Rattle.calls.specs.declared.answers.Done.{Done}
+use Rattle.calls.specs.declared.answers.Answer.the-variants.{Read}
+use Rattle.calls.specs.declared.enter.Test as asked
+use Rattle.calls.specs.declared.enter.Test.the-variants.{Passed, No}
+use Rattle.calls.specs.Said.{value}
+use Rattle.calls.specs.Outcome.{Outcome, outcome, refusalAt}
+use Rattle.calls.specs.Calls.{readOf}
+use Rattle.calls.specs.Seats.{seatOf, plainly, refusing, Serves}
+use Rattle.calls.specs.Enter.{whyOf, openedBy}
+use Rattle.calls.proofs.Entered.{bare, Goes, Shows, Opened, opened-passed, opened-goes, opened-shows}
+use Rattle.calls.proofs.Serving.{plainly-resat, refused-outcome, accepted-outcome, opened-refused}
+
+module _ (clock slots words heads log changes : List ℕ) (x : Seat) (n row : ℕ) (test : asked.Test) (q : whyOf test ≡ openedBy clock slots words heads log changes x n) where
+  abbrev lent : List Session → Tables
+  lent = tables clock slots words heads log changes
+
+  abbrev seen : Tables → Outcome
+  seen t = outcome t (value (readIn (meaning t) (session (meaning t) n) row))
+
+  pub read-refused : (why : Refusal) (d : Done) → test ≡ No why → d ≡ refusing why → Serves lent lent (λ t. readOf t n row) x n d
+  unfolding readOf tests
+  read-refused why d h k =
+      opened-refused clock slots words heads log changes x n (read n row) seen test why h d k (λ t. noRow (session (meaning t) n) row ∷ []) (λ t. refl) q
+
+  module _ (h : test ≡ Passed) where
+    passed : Opened clock slots words heads log changes (x .session) n
+    passed = opened-passed clock slots words heads log changes x n test h q
+
+    pub read-clock : 6 ≤ length clock
+    read-clock = room-facts (bare clock slots words heads log changes) (passed .room) .clock-room
+
+    pub read-readies : (c : Clock) → c ≡ clockIn clock → ReadReady slots words heads log changes (c .values .0) (x .session .start .0)
+    unfolding clockIn
+    read-readies c k =
+        subst (λ (z : Clock). ReadReady slots words heads log changes (z .values .0) (x .session .start .0)) (sym k)
+        (read-ready (bare clock slots words heads log changes) (passed .room) (passed .good) (x .session .start .0) (passed .start-old))
+
+    module _ (ts : List Session) (e : x ≡ seatOf (lent ts) n) where
+      went : Goes (lent ts) (read n row) (noRow (session (meaning (lent ts)) n) row ∷ [])
+      unfolding tests
+      went = opened-goes (lent ts) n x e (read n row) (noRow (session (meaning (lent ts)) n) row ∷ []) test refl q h
+
+      shown : Shows (lent ts) n (x .session)
+      unfolding tests
+      shown = opened-shows (lent ts) n x e (read n row) (noRow (session (meaning (lent ts)) n) row ∷ []) test refl q h
+
+      -- 7, of the session that the seat has
+      row-decides : refusalAt (lent ts) (read n row) ≡ cond (leb (x .session .rows .0) row) (some 7) none
+      row-decides = went .rest-decides ∙ ap (λ (m : ℕ). cond (leb m row) (some 7) none) (shown .rows-mean)
+
+    pub read-no-row : (d : Done) → x .session .rows .0 ≤ row → d ≡ refusing NoRow → Serves lent lent (λ t. readOf t n row) x n d
+    unfolding readOf
+    read-no-row d l k ts e =
+        refused-outcome (lent ts) (read n row) (seen (lent ts)) NoRow d
+        (row-decides ts e ∙ ap (λ (b : Bool). cond b (some 7) none) (le-leb (x .session .rows .0) row l)) k
+
+    pub read-reads : (c : Clock) (r : Standing) (d : Done) → row < x .session .rows .0 → c ≡ clockIn clock
+        → standingOf r ≡ readCells slots words heads log changes (c .values .0) (x .session .start .0) row → d ≡ plainly (Read r)
+        → Serves lent lent (λ t. readOf t n row) x n d
+    unfolding readOf clockIn
+    read-reads c r d l p z k ts e =
+        let t = lent ts in
+        let s = shown ts e in
+        plainly-resat t d (Read r) k
+        ∙ ap (λ (o : Option ℕ). outcome t (value o))
+        (z ∙ ap (λ (y : Clock). readCells slots words heads log changes (y .values .0) (x .session .start .0) row) p
+        ∙ read-meets t (went ts e .good) (x .session .start .0) (s .facts .start-old) row
+        ∙ ap (λ (m : ℕ). readAt (meaning t .values) (meaning t .log) (meaning t .chains) m row) (sym (s .start-means)))
+        ∙ sym
+        (accepted-outcome t (read n row) (seen t)
+        (row-decides ts e ∙ ap (λ (b : Bool). cond b (some 7) none) (lt-leb (x .session .rows .0) row l)))

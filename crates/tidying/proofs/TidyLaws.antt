@@ -1,0 +1,292 @@
+-- A tidy as a whole: its record and clock, all tables after it, and what the call comes to.
+-- Assumes nothing.
+use mathlib.Core.Path.{_≡_, refl, sym, ap, ap₂, _∙_, subst}
+use mathlib.Core.Option.{Option, none, some}
+use mathlib.Core.List.{List, [], _∷_}
+use Prim.Native.Nat.{ℕ, _+_, _≤_, _<_}
+use native.Mathlib.Omega.{arith}
+use borrow.Author.Tests.{leb-false, ltb-false}
+use lib.ListN.{length, set}
+use Rattle.bits.specs.Rows.{countOf, rowsOf}
+use Rattle.bits.specs.Vec.{vec}
+use Rattle.rules.specs.State.{session, startOf}
+use Rattle.rules.specs.Tidy.{moved}
+use Rattle.rules.specs.Calls.{tidy}
+use Rattle.rules.specs.Refusals.{Test, firstOf, nothingToMove, isStale, recordsFull, changesFull, slotsFull, tests}
+use Rattle.rules.proofs.Tests.{all-fail}
+use Rattle.tables.specs.declared.clock.Clock.{Clock}
+use Rattle.tables.specs.declared.session.Session.{Session}
+use Rattle.tables.specs.declared.refusal.Refusal.{Refusal}
+use Rattle.tables.specs.Cells.{Tables, tables, stampIn, rowsIn, slotsIn, changesIn, endAt}
+use Rattle.tables.specs.Clock.{clockIn, later}
+use Rattle.tables.specs.Meaning.{meaning}
+use Rattle.tables.specs.Stores.{putRecord, putMoment, putSlotsUsed, putChangesUsed}
+use Rattle.tables.proofs.Facts.{room-facts, parts, clock-limits, last-end, end-high}
+use Rattle.history.specs.Flips.{flippedIn, RowsLow}
+use Rattle.history.proofs.Ready.{based, rows-low}
+use Rattle.calls.specs.declared.answers.Answer.{Answer}
+use Rattle.calls.specs.declared.answers.Answer.the-variants.{At}
+use Rattle.calls.specs.declared.answers.Done.{Done}
+use Rattle.lent.specs.declared.seats.Seat.{Seat}
+use Rattle.calls.specs.declared.enter.Test as asked
+use Rattle.calls.specs.declared.enter.Test.the-variants.{Passed, No}
+use Rattle.calls.specs.Said.{said, numbers}
+use Rattle.calls.specs.Outcome.{Outcome, outcome, unless}
+use Rattle.calls.specs.Stores.{stores}
+use Rattle.calls.specs.Calls.{own, tidyStores, tidyOf}
+use Rattle.calls.specs.Seats.{plainly, refusing, resat, Serves}
+use Rattle.calls.specs.Enter.{whyOf, valuedBy}
+use Rattle.tidying.specs.Tidy.{Datable, tidyTests, RowsPut, Puttable, Fillable, VersionPut, Tidyable, TidyReady, movedIn, tidyClock, tidyLog, tidiedCells, Tidied, tidyCells, Tidies}
+use Rattle.calls.proofs.Entered.{bare, Valued, valued-passed, valued-goes, valued-shows}
+use Rattle.calls.proofs.Serving.{plainly-resat, refusing-resat, valued-refused}
+use Rattle.tidying.proofs.TidyMeets.{tests-meet, cells-meet}
+
+-- ---- the record and the clock
+
+pub counts-written : (clock c₁ c₂ c₃ : List ℕ) (stamp rows slots changes : ℕ) → c₁ ≡ putMoment clock stamp rows → c₂ ≡ putSlotsUsed c₁ slots → c₃ ≡ putChangesUsed c₂ changes
+    → c₃ ≡ set (set (set (set clock 2 stamp) 3 rows) 4 slots) 5 changes
+unfolding putMoment putSlotsUsed putChangesUsed
+counts-written clock c₁ c₂ c₃ stamp rows slots changes a b c =
+    c ∙ ap (λ (l : List ℕ). set l 5 changes) (b ∙ ap (λ (l : List ℕ). set l 4 slots) a)
+
+module _ (clock : List ℕ) (c : Clock) (e : c ≡ clockIn clock) where
+  stamp-is : c .stamp .0 ≡ stampIn clock
+  unfolding clockIn
+  stamp-is = ap (λ (x : Clock). x .stamp .0) e
+
+  rows-is : c .rows .0 ≡ rowsIn clock
+  unfolding clockIn
+  rows-is = ap (λ (x : Clock). x .rows .0) e
+
+  pub stamp-low : stampIn clock < 512 → c .stamp .0 < 512
+  stamp-low h = omega (arith, stamp-is)
+
+  pub stamp-fits : stampIn clock < 512 → c .stamp .0 < 4294967295
+  stamp-fits h = omega (arith, stamp-is)
+
+  module _ (moved used slots : ℕ) (u : used ≡ changesIn clock) (s : slots ≡ slotsIn clock) where
+    pub log-tidied : (log log′ : List ℕ) → log′ ≡ putRecord log (c .stamp .0) 2 (c .rows .0) (used + moved) → log′ ≡ tidyLog clock log moved
+    log-tidied log log′ q =
+        q ∙ ap₂ (λ (k n : ℕ). putRecord log k 2 n (used + moved)) stamp-is rows-is ∙ ap (λ (m : ℕ). putRecord log (stampIn clock) 2 (rowsIn clock) (m + moved)) u
+
+    module _ (next : Clock) (n : next ≡ later c (c .rows)) where
+      next-stamp : next .stamp .0 ≡ stampIn clock + 1
+      unfolding later
+      next-stamp = ap (λ (x : Clock). x .stamp .0) n ∙ ap (λ (k : ℕ). k + 1) stamp-is
+
+      next-rows : next .rows .0 ≡ rowsIn clock
+      unfolding later
+      next-rows = ap (λ (x : Clock). x .rows .0) n ∙ rows-is
+
+      pub clock-tidied : (clock′ : List ℕ) → clock′ ≡ set (set (set (set clock 2 (next .stamp .0)) 3 (next .rows .0)) 4 (slots + 1)) 5 (used + moved)
+          → clock′ ≡ tidyClock clock moved
+      clock-tidied clock′ q =
+          q ∙ ap₂ (λ (k m : ℕ). set (set (set (set clock 2 k) 3 m) 4 (slots + 1)) 5 (used + moved)) next-stamp next-rows
+          ∙ ap₂ (λ (k m : ℕ). set (set (set (set clock 2 (stampIn clock + 1)) 3 (rowsIn clock)) 4 (k + 1)) 5 (m + moved)) s u
+
+      pub tidy-said : said (At (next .stamp) moved) ≡ numbers ((stampIn clock + 1) ∷ moved ∷ [])
+      tidy-said = ap (λ (k : ℕ). numbers (k ∷ moved ∷ [])) next-stamp
+
+-- ---- all tables after it
+
+module _ (clock slots words heads log changes moved : List ℕ) (s v : ℕ) (f : TidyReady clock slots words heads log changes s v moved) where
+  pub version-fillable : (k : ℕ) → k ≡ slotsIn clock → Fillable slots words heads log changes k s v
+  version-fillable k e =
+      let g = f .tidyable in
+      record {
+        based = g .based;
+        words-room = g .room .words-room;
+        slot-low = omega (arith, f .slot-low);
+        start-low = omega (arith, g .start-old, f .stamp-low);
+        rows = g .rows;
+      }
+
+  pub moved-puttable : (used wide to : ℕ) → used ≡ changesIn clock → wide ≡ used → to ≡ endAt log s → Puttable changes wide to v (countOf moved)
+  moved-puttable used wide to u w e =
+      let g = f .tidyable in
+      record {
+        changes-room = g .room .changes-room;
+        old-before = omega (arith, g .end-old);
+        places-low = omega (arith, f .places-low);
+        value-low = g .based .headed .value-low;
+      }
+
+  pub start-fits : s ≤ 512
+  start-fits = omega (arith, f .tidyable .start-old, f .stamp-low)
+
+  pub stamp-next-fits : (c : Clock) → c ≡ clockIn clock → c .stamp .0 + 1 < 4294967296
+  stamp-next-fits c e = omega (arith, stamp-is clock c e, f .stamp-low)
+
+  module _ (n m : ℕ) (a : n ≡ countOf moved) (b : m ≡ n) where
+    pub count-fits : n < 4294967296
+    count-fits = omega (arith, f .places-low)
+
+    pub tidy-writes : (6 ≤ length clock) × (2048 ≤ length log) × (stampIn clock < 512) × (changesIn clock + m ≤ 2048) × (slotsIn clock < 96)
+    tidy-writes = (f .tidyable .room .clock-room, f .tidyable .room .log-room, f .stamp-low, omega (arith, f .places-low), f .slot-low)
+
+  pub tidy-done : (c : Clock) (k used wide n m to p : ℕ) (clock′ slots′ words′ heads′ log′ changes′ : List ℕ) (r : Answer) → c ≡ clockIn clock → k ≡ slotsIn clock
+      → used ≡ changesIn clock → wide ≡ used → n ≡ countOf moved → m ≡ n → to ≡ endAt log s
+      → VersionPut slots words heads log changes k (c .stamp .0 + 1) s v slots′ words′ heads′ → RowsPut (rowsOf moved) wide to v changes changes′ p
+      → (clock′ ≡ tidyClock clock m) × (log′ ≡ tidyLog clock log m) × (said r ≡ numbers ((stampIn clock + 1) ∷ m ∷ []))
+      → Tidied (tables clock slots words heads log changes) (tables clock′ slots′ words′ heads′ log′ changes′) s v moved r
+  unfolding tidiedCells
+  tidy-done c k used wide n m to p clock′ slots′ words′ heads′ log′ changes′ r e q u w a b o x y z = λ ts.
+      rw (
+        z .0,
+        z .1,
+        z .2,
+        b ∙ a,
+        x .slots-are,
+        x .words-are,
+        x .heads-are,
+        y .stored,
+        q,
+        w ∙ u,
+        o,
+        stamp-is clock c e,
+      )
+
+-- ---- its own tests
+
+-- what passing them says
+pub record Passing (clock : List ℕ) (moved : List ℕ) : Type 0 where
+  pub stamp-low : stampIn clock < 512
+  pub places-low : changesIn clock + countOf moved ≤ 2048
+  pub slot-low : slotsIn clock < 96
+
+pub passing : (clock slots heads log changes : List ℕ) (s v : ℕ) (moved : List ℕ) → firstOf (tidyTests clock slots heads log changes s v moved) ≡ none
+    → Passing clock moved
+unfolding tidyTests
+passing clock slots heads log changes s v moved e =
+    let p = all-fail (tidyTests clock slots heads log changes s v moved) e in
+    record { stamp-low = leb-false _ _ (p .1 .1 .0); places-low = ltb-false _ _ (p .1 .1 .1 .0); slot-low = leb-false _ _ (p .1 .1 .1 .1 .0) }
+
+module _ (clock slots words heads log changes : List ℕ) (s v to : ℕ) (moved : List ℕ) (go : asked.Test) (a : to ≡ endAt log s)
+    (m : moved ≡ vec (flippedIn changes 0 to v) 32) (q : whyOf go ≡ firstOf (tidyTests clock slots heads log changes s v moved)) where
+  abbrev lent : List Session → Tables
+  lent = tables clock slots words heads log changes
+
+  moved-is : moved ≡ movedIn log changes s v
+  unfolding movedIn
+  moved-is = m ∙ ap (λ (k : ℕ). vec (flippedIn changes 0 k v) 32) a
+
+  why-is : whyOf go ≡ firstOf (tidyTests clock slots heads log changes s v (movedIn log changes s v))
+  why-is = q ∙ ap (λ (w : List ℕ). firstOf (tidyTests clock slots heads log changes s v w)) moved-is
+
+  pub tidy-refuses : (why : Refusal) (d : Done) → go ≡ No why → d ≡ refusing why → Tidies lent lent s v d
+  unfolding tidyCells unless
+  tidy-refuses why d h k = λ ts.
+      let o = tidiedCells (lent ts) s v (movedIn log changes s v) in
+      refusing-resat (lent ts) d why k ∙ ap (λ (w : Option ℕ). unless w (lent ts) o) (sym (ap whyOf h) ∙ why-is)
+
+  module _ (h : go ≡ Passed) where
+    pub tidy-ready : Tidyable clock slots words heads log changes s v → TidyReady clock slots words heads log changes s v moved
+    tidy-ready f =
+        let p = passing clock slots heads log changes s v moved (sym q ∙ ap whyOf h) in
+        record { tidyable = f; stamp-low = p .stamp-low; places-low = p .places-low; slot-low = p .slot-low }
+
+    pub tidy-answers : (after : List Session → Tables) (r : Answer) (d : Done) → Tidied lent after s v moved r → d ≡ plainly r → Tidies lent after s v d
+    unfolding tidyCells unless
+    tidy-answers after r d f k = λ ts.
+        let o = tidiedCells (lent ts) s v (movedIn log changes s v) in
+        plainly-resat (after ts) d r k ∙ f ts ∙ ap (tidiedCells (lent ts) s v) moved-is
+        ∙ ap (λ (w : Option ℕ). unless w (lent ts) o) (sym (ap whyOf h) ∙ why-is)
+
+-- what `ready` needs, and the rows that it is given
+module _ (clock slots words heads log changes : List ℕ) (s v : ℕ) (f : Tidyable clock slots words heads log changes s v) where
+  pub start-in : s ≤ 512
+  start-in = omega (arith, f .start-old, f .few-records)
+
+  pub moved-rows : (to : ℕ) → to ≡ endAt log s → RowsLow changes 0 to
+  moved-rows to e = subst (RowsLow changes 0) (sym e) (f .rows)
+
+  pub ready-needs : (6 ≤ length clock) × Datable slots heads log changes (stampIn clock) s v
+  ready-needs = (
+    f .room .clock-room,
+    record {
+      headed = f .based .headed;
+      log-room = f .room .log-room;
+      changes-room = f .room .changes-room;
+      last-low = f .few-records;
+      start-low = start-in;
+      end-low = omega (arith, f .last-end, f .few-changes);
+    },
+  )
+
+-- ---- the call
+
+-- what is refused does not matter
+unless-same : (o : Option ℕ) (t : Tables) (a b : Outcome) → (o ≡ none → a ≡ b) → unless o t a ≡ unless o t b
+unfolding unless
+unless-same none t a b h = h refl
+unless-same (some n) t a b h = refl
+
+-- the tests of a tidy after those that it shares
+abbrev restOf : Tables → ℕ → ℕ → List Test
+restOf t n v =
+    let x = session (meaning t) n in
+    nothingToMove (meaning t) x v ∷ isStale (meaning t) x v ∷ recordsFull (meaning t) ∷ changesFull (meaning t) (length (moved (meaning t .log) (startOf x) v))
+    ∷ slotsFull (meaning t) ∷ []
+
+module _ (clock slots words heads log changes : List ℕ) (x : Seat) (n v : ℕ) (test : asked.Test)
+    (q : whyOf test ≡ valuedBy clock slots words heads log changes x n v) where
+  abbrev given : List Session → Tables
+  given = tables clock slots words heads log changes
+
+  pub tidy-refused : (why : Refusal) (d : Done) → test ≡ No why → d ≡ refusing why → Serves given given (λ t. tidyOf t n v) x n d
+  unfolding tidyOf tests
+  tidy-refused why d h k =
+      valued-refused clock slots words heads log changes x n (tidy n v)
+      (λ t. let s = own t n .start .0 in outcome (stores t (tidyStores t s v)) (numbers ((stampIn (t .clock) + 1) ∷ length (moved (meaning t .log) s v) ∷ []))) test why h d k
+      (λ t. restOf t n v) v (λ t. refl) q
+
+  module _ (h : test ≡ Passed) where
+    valued : Valued clock slots words heads log changes (x .session) n v
+    valued = valued-passed clock slots words heads log changes x n test h v q
+
+    pub value-cast : v < 4294967296
+    value-cast = omega (arith, valued .value-low, clock-limits clock (parts (bare clock slots words heads log changes) (valued .good) .clock-fits) .few-values)
+
+    pub tidyable : Tidyable clock slots words heads log changes (x .session .start .0) v
+    tidyable =
+        let t = bare clock slots words heads log changes in
+        let y = valued in
+        let s = x .session .start .0 in
+        let p = parts t (y .good) in
+        let k = clock-limits clock (p .clock-fits) in
+        let r = room-facts t (y .room) in
+        record {
+          room =
+              record {
+                clock-room = r .clock-room;
+                slots-room = r .slots-room;
+                words-room = r .words-room;
+                heads-room = r .heads-room;
+                log-room = r .log-room;
+                changes-room = r .changes-room;
+              };
+          based = based t (y .room) (y .good) s (y .start-old) v (y .value-low);
+          rows = rows-low t (y .room) (y .good) s (y .start-old) 0;
+          start-old = y .start-old;
+          few-records = k .few-records;
+          few-changes = k .few-changes;
+          last-end = last-end clock log (p .records-fit);
+          end-old = end-high clock log (p .records-fit) s (y .start-old);
+        }
+
+    pub tidy-served : (after : List Session → Tables) (d : Done) → Tidies given after (x .session .start .0) v d → Serves given after (λ t. tidyOf t n v) x n d
+    unfolding tidyOf tidyCells tests
+    tidy-served after d f = λ ts e.
+        let t = given ts in
+        let s = x .session .start .0 in
+        let g = valued-goes t n x e (tidy n v) (restOf t n v) test v refl q h in
+        let w = valued-shows t n x e (tidy n v) (restOf t n v) test v refl q h in
+        let o : ℕ → Outcome = λ k. outcome (stores t (tidyStores t k v)) (numbers ((stampIn (t .clock) + 1) ∷ length (moved (meaning t .log) k v) ∷ [])) in
+        let low : s ≤ stampIn clock = w .facts .start-old in
+        let ts₀ = firstOf (tidyTests clock slots heads log changes s v (movedIn log changes s v)) in
+        f ts
+        ∙ unless-same ts₀ t (tidiedCells t s v (movedIn log changes s v)) (o s)
+        (λ z. cells-meet t (g .good) s low v (valued .value-low) (room-facts t (g .room) .words-room) (passing clock slots heads log changes s v (movedIn log changes s v) z .slot-low))
+        ∙ ap₂ (λ (r : Option ℕ) (k : ℕ). unless r t (o k))
+        (tests-meet t (g .good) s low v (valued .value-low) (session (meaning t) n) (w .start-means) ∙ sym (g .rest-decides))
+        (ap (λ (y : Session). y .start .0) (sym (w .own-there)))

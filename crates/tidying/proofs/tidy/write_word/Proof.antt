@@ -1,0 +1,72 @@
+-- `index::tidy::write_word` meets its contract. The invariant: the rows of the first k bits are put, and x is what is left of the word. The measure is what is left of the 64 bits.
+-- Assumes nothing.
+use Rattle.tidying.proofs.MovedLaws.{WordScan, next, put-length, scan-none, scan-end, next-lt, next-puttable, scan-more}
+use Rattle.tidying.specs.Tidy.{Puttable}
+use native.Mathlib.Omega.{arith}
+use Prim.Native.Nat.{_+_, _-_, _<_}
+use Rattle.tidying.proofs.tidy.write_word.Statement.{statement}
+use Rattle.tidying.proofs.tidy.write_word.Tie as tie
+
+abbrev Inv-loop : tie.InvT-loop
+Inv-loop changes₀ from to word base v p₀ x₀ k₀ changes p x k = WordScan base word from to (v .0) changes₀ changes p x k
+
+abbrev μ-loop : tie.MeasureT-loop
+μ-loop changes₀ from to word base v p₀ x₀ k₀ changes p x k = 64 - k
+
+-- the next set bit is in the word, and there is room for its change
+bound : (c : tie.In-loop Inv-loop μ-loop) → c .before .loop .k + next (c .before .loop .x) < 64
+bound c = next-lt _ _ _ _ _ _ _ _ _ _ (c .before .before .before .fits .word .fits) (c .before .loop .inv) (c .loop-test .taken)
+
+room : (c : tie.In-loop Inv-loop μ-loop) → let a = c .before .before .before .args in Puttable (c .before .loop .changes) (c .before .loop .p) (a .to) (a .v .0) 1
+room c = next-puttable _ _ _ _ _ _ _ _ _ _ (c .before .before .before .fits .word .fits) (c .before .loop .inv) (c .loop-test .taken) (c .before .before .before .pre .0)
+
+loop-holds : tie.Need-loop-holds Inv-loop μ-loop
+loop-holds c = search scan-none
+
+add-k : tie.Need-add-k Inv-loop μ-loop
+add-k c = omega (arith, bound c)
+
+add-row : tie.Need-add-row Inv-loop μ-loop
+add-row c = omega (arith, bound c, c .before .before .before .pre)
+
+put-less-requires : tie.Need-put-less-requires Inv-loop μ-loop
+put-less-requires c κs = room (c .before)
+
+add-k-2 : tie.Need-add-k-2 Inv-loop μ-loop
+add-k-2 c = omega (arith, bound (c .before .before .before .before))
+
+cast-x : tie.Need-cast-x Inv-loop μ-loop
+cast-x c = omega (arith, bound (c .before .before .before .before))
+
+shr-x : tie.Need-shr-x Inv-loop μ-loop
+shr-x c = omega (arith, bound (c .before .before .before .before))
+
+loop-less : tie.Need-loop-less Inv-loop μ-loop
+loop-less c = omega (arith, bound (c .before .before .before .before))
+
+loop-again : tie.Need-loop-again Inv-loop μ-loop
+loop-again c = let b = c .before .before .before .before in scan-more _ _ _ _ _ _ _ _ _ _ (b .before .before .before .fits .word .fits) (b .before .loop .inv) (b .loop-test .taken) _ _ (b .before .before .before .pre .0) (c .before .before .put-less .ensures)
+
+same-length : tie.Need-same-length Inv-loop μ-loop
+same-length c = put-length _ _ _ _ _ _ _ (c .before .loop .inv .put)
+
+returns : tie.Need-returns Inv-loop μ-loop
+returns c = scan-end _ _ _ _ _ _ _ _ _ _ (c .before .before .before .fits .word .fits) (c .before .loop .inv) (c .loop-test .left)
+
+pub write-word-spec : {M : Type 1} → statement M
+write-word-spec =
+    tie.close
+    (tie.spec
+    Inv-loop
+    μ-loop
+    loop-holds
+    add-k
+    add-row
+    put-less-requires
+    add-k-2
+    cast-x
+    shr-x
+    loop-less
+    loop-again
+    same-length
+    returns)
