@@ -1,0 +1,176 @@
+-- Commit on the lent tables: its changes are the rules', and what each end of `commit_now` and of the core comes to.
+-- Assumes nothing.
+use mathlib.Core.Path.{_≡_, refl, sym, ap, ap₂, _∙_}
+use mathlib.Core.Bool.{Bool, cond}
+use mathlib.Core.Option.{Option, none, some}
+use mathlib.Core.List.{List, [], _∷_, _++_}
+use Prim.Native.Nat.{ℕ, suc, _+_, _≤_}
+use native.Mathlib.Numerals.{add-one}
+use native.Mathlib.Omega.{arith}
+use borrow.Author.Tests.{lt-ltb}
+use lib.ListN.{length, set}
+use Rattle.bits.specs.Bit.{flipBit}
+use Rattle.rules.specs.State.{Change, Entry, alter, add, session}
+use Rattle.rules.specs.Lists.{inserts}
+use Rattle.rules.specs.Commit.{toggled, newSet, rowChanges, insertChanges, commitChanges}
+use Rattle.rules.specs.Damage.{Within, EntriesFit, SessionFits}
+use Rattle.rules.specs.Calls.{commit}
+use Rattle.rules.specs.Refusals.{Test, firstOf, tests, listEmpty, conflict, rowsFull, recordsFull, changesFull}
+use Rattle.rules.specs.State as rules
+use Rattle.rules.proofs.Fits.{smallest-low}
+use Rattle.tables.specs.declared.session.Session.{Session}
+use Rattle.tables.specs.declared.refusal.Refusal.{Refusal}
+use Rattle.tables.specs.Cells.{Tables, tables, valuesIn, stampIn, rowsIn, changesIn, endAt}
+use Rattle.tables.specs.Sessions.{freed}
+use Rattle.tables.specs.Stores.{putRecord}
+use Rattle.tables.specs.Meaning.{entries, meaning}
+use Rattle.tables.proofs.Facts.{parts, clock-limits}
+use Rattle.tables.proofs.Means.{values-means, rows-means}
+use Rattle.tables.proofs.Undamaged.{means-undamaged}
+use Rattle.history.specs.Last.{lastSet}
+use Rattle.history.specs.Read.{readCells}
+use Rattle.history.proofs.Meets.{flipSet-meets, read-meets}
+use Rattle.lent.specs.declared.seats.Seat.{Seat}
+use Rattle.calls.specs.declared.answers.Done.{Done}
+use Rattle.calls.specs.declared.answers.Answer.{Answer}
+use Rattle.calls.specs.declared.enter.Test.the-variants.{Passed, No}
+use Rattle.calls.specs.Said.{Said, said, numbers}
+use Rattle.calls.specs.Outcome.{Outcome, outcome}
+use Rattle.calls.specs.Stores.{stores, putChanges}
+use Rattle.calls.specs.Calls.{commitRows, commitStores, commitOf}
+use Rattle.calls.specs.Seats.{refusing, seating, Serves}
+use Rattle.calls.specs.Enter.{whyOf, openedBy}
+use Rattle.calls.specs.Opened.{Usable, OpenIn, Settles}
+use Rattle.committing.specs.Commit.{commitTests, toggledIn, newCells, insertCells, CommitReady, rowsAfter, changesMade, Committed}
+use Rattle.calls.specs.declared.enter.Test as asked
+use Rattle.calls.proofs.Entered.{opened-goes, opened-shows}
+use Rattle.calls.proofs.Serving.{refused-outcome, accepted-outcome, seating-resat, opened-refused}
+use Rattle.calls.proofs.StoreLaws.{commit-stores}
+use Rattle.calls.proofs.OpenLaws.{open-session, open-facts}
+use Rattle.committing.proofs.CommitTests.{commit-ready, commit-refusal}
+
+-- ---- the flip sets of values below C, and the changes of a list that fits
+
+toggled-in : (C m : ℕ) (o : Option ℕ) → C ≤ 32 → Within C o → toggledIn m o ≡ toggled m o
+unfolding toggledIn toggled
+toggled-in C m none h w = refl
+toggled-in C m (some a) h w = ap (λ (b : Bool). cond b (flipBit m a) m) (lt-ltb a 32 (omega arith))
+
+rows-alike : (C n : ℕ) (f g : ℕ → Option ℕ → ℕ) (es : List Entry) → EntriesFit C n es → ((r : ℕ) (b : Option ℕ) → Within C b → f r b ≡ g r b) → rowChanges f es ≡ rowChanges g es
+rows-alike C n f g [] fit h = refl
+rows-alike C n f g (alter r b ∷ es) fit h =
+    ap₂ (λ (m : ℕ) (cs : List Change). record { row = r; flips = m } ∷ cs) (h r b (fit .1)) (rows-alike C n f g es (fit .2) h)
+rows-alike C n f g (add v ∷ es) fit h = rows-alike C n f g es (fit .1) h
+
+inserts-alike : (C n : ℕ) (es : List Entry) (r : ℕ) → C ≤ 32 → EntriesFit C n es → insertCells r (inserts es) ≡ insertChanges r (inserts es)
+unfolding toggled
+inserts-alike C n [] r h fit = refl
+inserts-alike C n (alter q b ∷ es) r h fit = inserts-alike C n es r h (fit .2)
+inserts-alike C n (add v ∷ es) r h fit =
+    ap₂ (λ (m : ℕ) (cs : List Change). record { row = r; flips = m } ∷ cs) (toggled-in C 0 (some v) h (fit .0))
+    (ap (λ (k : ℕ). insertCells k (inserts es)) (add-one r) ∙ inserts-alike C n es (suc r) h (fit .1))
+
+module _ (t : Tables) (n : ℕ) (x : Session) (o : OpenIn t n x) where
+  few : valuesIn (t .clock) ≤ 32
+  few = clock-limits (t .clock) (parts t (o .good) .clock-fits) .few-values
+
+  entries-fit : EntriesFit (valuesIn (t .clock)) (x .rows .0) (entries x)
+  entries-fit =
+      let f : SessionFits (meaning t .values) (meaning t .first) (meaning t .log) (session (meaning t) n) = means-undamaged t (o .good) .sessions-fit n in
+      rw (values-means t, open-session t n x o) at f .fit
+
+  -- the new set of a row
+  set-meets : (row : ℕ) (b : Option ℕ) → Within (valuesIn (t .clock)) b
+      → newCells (t .slots) (t .words) (t .heads) (t .log) (t .changes) (valuesIn (t .clock)) (x .start .0) row b
+      ≡ newSet (meaning t .values) (meaning t .log) (meaning t .chains) (x .start .0) (x .start .0) row b
+  unfolding newCells readCells
+  set-meets row b w =
+      let s = x .start .0 in
+      let C = valuesIn (t .clock) in
+      let old = open-facts t n x o .start-old in
+      let held = readCells (t .slots) (t .words) (t .heads) (t .log) (t .changes) C s row in
+      toggled-in C _ b few w
+      ∙ ap (λ (m : ℕ). toggled m b)
+      (toggled-in C (lastSet (t .changes) 0 (endAt (t .log) s) row) held few (smallest-low C _)
+      ∙ ap₂ toggled (flipSet-meets t (o .good) s old row) (read-meets t (o .good) s old row))
+
+  -- the changes of the commit
+  pub changes-meet : changesMade (t .clock) (t .slots) (t .words) (t .heads) (t .log) (t .changes) x ≡ commitChanges (meaning t) (x .start .0) (entries x)
+  unfolding commitChanges
+  changes-meet =
+      ap₂ (λ (cs ds : List Change). cs ++ ds)
+      (rows-alike (valuesIn (t .clock)) (x .rows .0) (newCells (t .slots) (t .words) (t .heads) (t .log) (t .changes) (valuesIn (t .clock)) (x .start .0))
+      (newSet (meaning t .values) (meaning t .log) (meaning t .chains) (x .start .0) (x .start .0)) (entries x) entries-fit set-meets)
+      (inserts-alike (valuesIn (t .clock)) (x .rows .0) (entries x) (rowsIn (t .clock)) few entries-fit
+      ∙ ap (λ (r : ℕ). insertChanges r (inserts (entries x))) (sym (rows-means t)))
+
+-- ---- the ends
+
+module _ (clock slots words heads log changes : List ℕ) where
+  abbrev lent : List Session → Tables
+  lent = tables clock slots words heads log changes
+
+  -- what an accepted commit leaves and answers
+  abbrev wrote : ℕ → Tables → Outcome
+  wrote n t = outcome (stores t (commitStores t n)) (numbers ((stampIn (t .clock) + 1) ∷ commitRows t n ∷ []))
+
+  -- the same table by table, of the session that it is
+  abbrev tabled : List Session → ℕ → Session → Outcome
+  tabled ts n y =
+      outcome
+      (tables (set (set (set clock 2 (stampIn clock + 1)) 3 (rowsAfter clock y)) 5 (changesIn clock + y .count)) slots words heads
+      (putRecord log (stampIn clock) 1 (rowsAfter clock y) (changesIn clock + y .count))
+      (putChanges changes (changesIn clock) (commitChanges (meaning (lent ts)) (y .start .0) (entries y))) (set ts n freed))
+      (numbers ((stampIn clock + 1) ∷ rowsAfter clock y ∷ []))
+
+  module _ (x : Session) (n : ℕ) (go : asked.Test) (q : whyOf go ≡ firstOf (commitTests clock log changes x)) where
+    pub now-refused : (why : Refusal) (d : Done) → go ≡ No why → d ≡ refusing why → Settles lent lent (λ t. commitOf t n) x n d
+    unfolding commitOf
+    now-refused why d h k ts o =
+        let t = lent ts in
+        refused-outcome t (commit n) (wrote n t) why d (commit-refusal t n x o ∙ sym q ∙ ap whyOf h) k
+
+    module _ (h : go ≡ Passed) where
+      pub now-ready : Usable clock slots words heads log changes x → CommitReady clock slots words heads log changes x
+      now-ready u = commit-ready clock slots words heads log changes x u (sym q ∙ ap whyOf h)
+
+      pub now-done : (clock′ log′ changes′ : List ℕ) (a : Answer) (f : Session) (d : Done) → Committed clock slots words heads log changes x clock′ log′ changes′ a
+          → f ≡ freed → d ≡ seating a n f → Settles lent (tables clock′ slots words heads log′ changes′) (λ t. commitOf t n) x n d
+      unfolding commitOf
+      now-done clock′ log′ changes′ a f d c e k ts o =
+          let t = lent ts in
+          let made : List ℕ → List ℕ → List ℕ → Said → Outcome = λ cl lg ch s. outcome (tables cl slots words heads lg ch (set ts n freed)) s in
+          seating-resat (tables clock′ slots words heads log′ changes′ ts) d a n f (o .place-low) k
+          ∙ ap (λ (y : Session). outcome (tables clock′ slots words heads log′ changes′ (set ts n y)) (said a)) e
+          ∙ ap₂ (λ (cl lg : List ℕ). made cl lg changes′ (said a)) (c .recorded .clock-is) (c .recorded .log-is)
+          ∙ ap₂ (λ (ch : List ℕ) (s : Said).
+          made (set (set (set clock 2 (stampIn clock + 1)) 3 (rowsAfter clock x)) 5 (changesIn clock + x .count))
+          (putRecord log (stampIn clock) 1 (rowsAfter clock x) (changesIn clock + x .count)) ch s)
+          (c .stored ∙ ap (putChanges changes (changesIn clock)) (changes-meet t n x o)) (c .recorded .says)
+          ∙ ap (tabled ts n) (sym (o .own-there))
+          ∙ sym (ap (λ (u : Tables). outcome u (numbers ((stampIn clock + 1) ∷ commitRows t n ∷ []))) (commit-stores t n))
+          ∙ sym (accepted-outcome t (commit n) (wrote n t) (commit-refusal t n x o ∙ sym q ∙ ap whyOf h))
+
+  -- ---- the core
+
+  module _ (x : Seat) (n : ℕ) (test : asked.Test) (q : whyOf test ≡ openedBy clock slots words heads log changes x n) where
+    -- the tests that are left
+    abbrev left : Tables → List Test
+    left t =
+        let st = meaning t in
+        let y = session st n in
+        listEmpty y ∷ conflict st y ∷ rowsFull st y ∷ recordsFull st ∷ changesFull st (length (rules.listOf y)) ∷ []
+
+    pub commit-refused : (why : Refusal) (d : Done) → test ≡ No why → d ≡ refusing why → Serves lent lent (λ t. commitOf t n) x n d
+    unfolding commitOf tests
+    commit-refused why d h k = opened-refused clock slots words heads log changes x n (commit n) (wrote n) test why h d k left (λ t. refl) q
+
+    pub commit-on : (clock′ log′ changes′ : List ℕ) (d : Done) → test ≡ Passed
+        → Settles lent (tables clock′ slots words heads log′ changes′) (λ t. commitOf t n) (x .session) n d
+        → Serves lent (tables clock′ slots words heads log′ changes′) (λ t. commitOf t n) x n d
+    unfolding tests
+    commit-on clock′ log′ changes′ d h f ts e =
+        let t = lent ts in
+        let g = opened-goes t n x e (commit n) (left t) test refl q h in
+        let s = opened-shows t n x e (commit n) (left t) test refl q h in
+        f ts (record { room = g .room; good = g .good; place-low = s .place-low; own-there = s .own-there; live-one = s .live-one })

@@ -1,0 +1,87 @@
+// Commit: its refusals, and what it writes. Assumes nothing.
+use crate::clash;
+use crate::writes;
+use calls::Done;
+use calls::Test;
+use lent::Seat;
+use tables::Refusal;
+use tables::Session;
+ghost use mathlib.Core.Path.{_≡_};
+ghost use Rattle.rules.specs.Refusals.{firstOf};
+ghost use Rattle.tables.specs.Cells.{tables};
+ghost use Rattle.calls.specs.Calls.{commitOf};
+ghost use Rattle.calls.specs.Seats.{Serves};
+ghost use Rattle.calls.specs.Enter.{whyOf};
+ghost use Rattle.calls.specs.Opened.{Usable, Settles};
+ghost use Rattle.committing.specs.Commit.{CommitAsked, commitTests};
+
+// The refusals 11, 12, 15, 16 and 17.
+fn ready(clock: &[u32], log: &[u32], changes: &[u32], s: Session) -> Test
+    requires { ⌜ CommitAsked (now clock) (now log) (now changes) s ⌝ }
+    ensures { λ r. ⌜ whyOf r ≡ firstOf (commitTests (now (clock .entry)) (now (log .entry)) (now (changes .entry)) s) ⌝ }
+{
+    let c = tables::clock_of(clock);
+    let stamp = c.stamp;
+    let rows = c.rows;
+    if s.count == 0 {
+        return Test::No(Refusal::ListEmpty);
+    }
+    if clash::clash(log, changes, s, stamp) {
+        return Test::No(Refusal::Conflict);
+    }
+    if 2048 < rows.0 + listing::inserts(s) {
+        return Test::No(Refusal::RowsFull);
+    }
+    if 512 <= stamp.0 {
+        return Test::No(Refusal::RecordsFull);
+    }
+    if 2048 < tables::changes_used(clock) + s.count {
+        return Test::No(Refusal::ChangesFull);
+    }
+    Test::Passed
+}
+
+// Commit of an open session on undamaged tables.
+fn commit_now(
+    clock: &mut [u32],
+    slots: &[u32],
+    words: &[u64],
+    heads: &[u32],
+    log: &mut [u32],
+    changes: &mut [u32],
+    s: Session,
+    n: u64,
+) -> Done
+    requires { ⌜ Usable (now clock) (now slots) (now words) (now heads) (now log) (now changes) s ⌝ }
+    ensures { λ r. ⌜ Settles (tables (now (clock .entry)) (now (slots .entry)) (now (words .entry)) (now (heads .entry)) (now (log .entry)) (now (changes .entry))) (tables (now (clock .exit)) (now (slots .entry)) (now (words .entry)) (now (heads .entry)) (now (log .exit)) (now (changes .exit))) (λ t. commitOf t n) s n r ⌝ }
+{
+    let go = ready(clock, log, changes, s);
+    match go {
+        Test::No(why) => calls::refused(why),
+        Test::Passed => {
+            let answer = writes::commit_work(clock, slots, words, heads, log, changes, s);
+            calls::seated(answer, n, tables::free_session())
+        }
+    }
+}
+
+// Commit.
+pub fn commit_in(
+    clock: &mut [u32],
+    slots: &[u32],
+    words: &[u64],
+    heads: &[u32],
+    log: &mut [u32],
+    changes: &mut [u32],
+    seat: Seat,
+    n: u64,
+) -> Done
+    ensures { λ r. ⌜ Serves (tables (now (clock .entry)) (now (slots .entry)) (now (words .entry)) (now (heads .entry)) (now (log .entry)) (now (changes .entry))) (tables (now (clock .exit)) (now (slots .entry)) (now (words .entry)) (now (heads .entry)) (now (log .exit)) (now (changes .exit))) (λ t. commitOf t n) seat n r ⌝ }
+{
+    let s = seat.session;
+    let test = calls::opened(clock, slots, words, heads, log, changes, seat, n);
+    match test {
+        Test::No(why) => calls::refused(why),
+        Test::Passed => commit_now(clock, slots, words, heads, log, changes, s, n),
+    }
+}

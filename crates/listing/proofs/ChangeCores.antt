@@ -1,0 +1,186 @@
+-- Update, delete and insert on the lent tables: what each end of `change_row` and of the three cores comes to.
+-- Assumes nothing.
+use mathlib.Core.Path.{_≡_, refl, sym, ap, ap₂, _∙_}
+use mathlib.Core.Bool.{Bool, false, cond}
+use mathlib.Core.Option.{Option, some}
+use mathlib.Core.List.{List, [], _∷_}
+use Prim.Native.Nat.{ℕ, _≤_, _<_}
+use native.Mathlib.Omega.{arith}
+use borrow.Author.Tests.{le-leb, lt-leb}
+use lib.Dec.{leb}
+use mir.Syntax.{w8}
+use mir.Val.{Fits}
+use Rattle.rules.specs.State.{Session, Entry, session, rowsOf}
+use Rattle.rules.specs.Lists.{target, standing}
+use Rattle.rules.specs.Versions.{readAt}
+use Rattle.rules.specs.Calls.{update, delete, insert}
+use Rattle.rules.specs.Refusals.{Test, firstOf, tests, noRow, rowAbsent, listFullFor, listFull, isAbsent, standingIn}
+use Rattle.tables.specs.declared.counts.Value.{Value}
+use Rattle.tables.specs.declared.refusal.Refusal.{Refusal}
+use Rattle.tables.specs.declared.refusal.Refusal.the-variants.{NoRow, RowAbsent}
+use Rattle.tables.specs.Cells.{Tables, tables, valuesIn}
+use Rattle.tables.specs.Meaning.{entries, meaning}
+use Rattle.tables.specs.declared.session.Session as cells
+use Rattle.tables.proofs.Facts.{room-facts, parts, clock-limits}
+use Rattle.history.specs.declared.read.Standing.{Standing}
+use Rattle.history.specs.declared.read.Standing.the-variants.{Holds, Absent}
+use Rattle.history.specs.Read.{standingOf, readCells}
+use Rattle.history.proofs.Meets.{read-meets}
+use Rattle.history.proofs.Ready.{read-ready}
+use Rattle.lent.specs.declared.seats.Seat.{Seat}
+use Rattle.calls.specs.declared.answers.Done.{Done}
+use Rattle.calls.specs.declared.enter.Test.the-variants.{Passed, No}
+use Rattle.calls.specs.Outcome.{Outcome, unless}
+use Rattle.calls.specs.Calls.{own, spotOf, listedAt, relisted, updateOf, deleteOf, insertOf}
+use Rattle.calls.specs.Seats.{seatOf, refusing, Serves}
+use Rattle.calls.specs.Enter.{whyOf, openedBy, valuedBy}
+use Rattle.calls.specs.Opened.{Usable, OpenIn, Settles, SettlesAny}
+use Rattle.listing.specs.Change.{appendOf, targetPut, changeOf, Stands}
+use Rattle.calls.specs.declared.enter.Test as asked
+use Rattle.calls.proofs.Entered.{bare, opened-passed, opened-goes, opened-shows, valued-passed, valued-goes, valued-shows}
+use Rattle.calls.proofs.Serving.{refusing-resat, opened-refused, valued-refused}
+use Rattle.calls.proofs.OpenLaws.{open-start, open-rows, open-list, open-facts}
+use Rattle.listing.proofs.ChangeLaws.{refuses}
+
+module _ (clock slots words heads log changes : List ℕ) where
+  abbrev lent : List cells.Session → Tables
+  lent = tables clock slots words heads log changes
+
+  -- ---- 7 and 8, then the list
+
+  module _ (x : cells.Session) (n row to : ℕ) where
+    -- the tests that are left, of the session that the rules see
+    abbrev left : Tables → List Test
+    left t = noRow (session (meaning t) n) row ∷ rowAbsent (meaning t) (session (meaning t) n) row ∷ listFullFor (session (meaning t) n) row ∷ []
+
+    abbrev put : Tables → Outcome
+    put t = relisted t n (listedAt (own t n) (spotOf (own t n) row) row to)
+
+    abbrev stands : Option ℕ
+    stands = standing (target (entries x) row) (readCells slots words heads log changes (valuesIn clock) (x .start .0) row)
+
+    pub change-stands : (spot : ℕ) → Usable clock slots words heads log changes x → row < x .rows .0 → spot ≡ spotOf x row
+        → Stands clock slots words heads log changes x row spot
+    change-stands spot u l e =
+        let t = bare clock slots words heads log changes in
+        record {
+          clock-room = room-facts t (u .room) .clock-room;
+          readable = read-ready t (u .room) (u .good) (x .start .0) (u .start-old);
+          count-low = u .count-low;
+          row-low = omega (arith, u .rows-few);
+          spot-is = e;
+        }
+
+    module _ (d : Done) where
+      pub change-no-row : x .rows .0 ≤ row → d ≡ refusing NoRow → Settles lent lent (λ t. changeOf t n row to) x n d
+      unfolding changeOf
+      change-no-row l e ts o =
+          let t = lent ts in
+          refusing-resat t d NoRow e
+          ∙ sym (refuses (left t) 7 t (put t)
+          (ap (λ (m : ℕ). cond (leb m row) (some 7) (firstOf (rowAbsent (meaning t) (session (meaning t) n) row ∷ listFullFor (session (meaning t) n) row ∷ []))) (open-rows t n x o)
+          ∙ ap (λ (b : Bool). cond b (some 7) (firstOf (rowAbsent (meaning t) (session (meaning t) n) row ∷ listFullFor (session (meaning t) n) row ∷ []))) (le-leb (x .rows .0) row l)))
+
+      module _ (l : row < x .rows .0) (held : Standing) (h : standingOf held ≡ stands) where
+        -- 7 fails
+        has-row : (t : Tables) → OpenIn t n x → leb (rowsOf (session (meaning t) n)) row ≡ false
+        has-row t o = ap (λ (m : ℕ). leb m row) (open-rows t n x o) ∙ lt-leb (x .rows .0) row l
+
+        -- 8 is judged alike
+        judged : (ts : List cells.Session) → OpenIn (lent ts) n x → standingIn (meaning (lent ts)) (session (meaning (lent ts)) n) row ≡ standingOf held
+        judged ts o =
+            let t = lent ts in
+            let st = meaning t in
+            ap₂ (λ (es : List Entry) (s : ℕ). standing (target es row) (readAt (st .values) (st .log) (st .chains) s row)) (open-list t n x o) (open-start t n x o)
+            ∙ ap (standing (target (entries x) row)) (sym (read-meets t (o .good) (x .start .0) (open-facts t n x o .start-old) row)) ∙ sym h
+
+        pub change-absent : held ≡ Absent → d ≡ refusing RowAbsent → Settles lent lent (λ t. changeOf t n row to) x n d
+        unfolding changeOf
+        change-absent a e ts o =
+            let t = lent ts in
+            refusing-resat t d RowAbsent e
+            ∙ sym (refuses (left t) 8 t (put t)
+            (ap₂ (λ (b : Bool) (z : Option ℕ). cond b (some 7) (cond (isAbsent z) (some 8) (firstOf (listFullFor (session (meaning t) n) row ∷ [])))) (has-row t o)
+            (judged ts o ∙ ap standingOf a)))
+
+        pub change-on : (v : Value) → held ≡ Holds v → SettlesAny (λ t. targetPut t n row to) x n d → Settles lent lent (λ t. changeOf t n row to) x n d
+        unfolding changeOf targetPut
+        change-on v a f ts o =
+            let t = lent ts in
+            f t o
+            ∙ sym (ap₂ (λ (b : Bool) (z : Option ℕ). unless (cond b (some 7) (cond (isAbsent z) (some 8) (firstOf (listFullFor (session (meaning t) n) row ∷ [])))) t (put t)) (has-row t o)
+            (judged ts o ∙ ap standingOf a))
+
+  -- ---- the cores: with 4, 5 and 6
+
+  module _ (x : Seat) (n v : ℕ) (test : asked.Test) (q : whyOf test ≡ valuedBy clock slots words heads log changes x n v) where
+    pub update-refused : (row : ℕ) (why : Refusal) (d : Done) → test ≡ No why → d ≡ refusing why → Serves lent lent (λ t. updateOf t n row v) x n d
+    unfolding updateOf tests
+    update-refused row why d h k =
+        valued-refused clock slots words heads log changes x n (update n row v) (put (x .session) n row v) test why h d k (left (x .session) n row v) v (λ t. refl) q
+
+    pub insert-refused : (why : Refusal) (d : Done) → test ≡ No why → d ≡ refusing why → Serves lent lent (λ t. insertOf t n v) x n d
+    unfolding insertOf tests
+    insert-refused why d h k =
+        valued-refused clock slots words heads log changes x n (insert n v) (λ t. relisted t n (listedAt (own t n) (own t n .count) 65535 v)) test why h d k
+        (λ t. listFull (session (meaning t) n) ∷ []) v (λ t. refl) q
+
+    module _ (h : test ≡ Passed) where
+      pub valued-usable : Usable clock slots words heads log changes (x .session)
+      valued-usable =
+          let p = valued-passed clock slots words heads log changes x n test h v q in
+          record { room = p .room; good = p .good; start-old = p .start-old; rows-few = p .rows-few; count-low = p .count-low }
+
+      pub value-byte : Fits w8 v
+      value-byte =
+          let p = valued-passed clock slots words heads log changes x n test h v q in
+          omega (arith, p .value-low, clock-limits clock (parts (bare clock slots words heads log changes) (p .good) .clock-fits) .few-values)
+
+      valued-open : (ts : List cells.Session) → x ≡ seatOf (lent ts) n → OpenIn (lent ts) n (x .session)
+      unfolding tests
+      valued-open ts e =
+          let t = lent ts in
+          let rest = listFull (session (meaning t) n) ∷ [] in
+          let g = valued-goes t n x e (insert n v) rest test v refl q h in
+          let s = valued-shows t n x e (insert n v) rest test v refl q h in
+          record { room = g .room; good = g .good; place-low = s .place-low; own-there = s .own-there; live-one = s .live-one }
+
+      pub update-on : (row : ℕ) (d : Done) → Settles lent lent (λ t. changeOf t n row v) (x .session) n d → Serves lent lent (λ t. updateOf t n row v) x n d
+      unfolding updateOf changeOf tests
+      update-on row d f ts e =
+          let t = lent ts in
+          f ts (valued-open ts e)
+          ∙ ap (λ (w : Option ℕ). unless w t (put (x .session) n row v t))
+          (sym (valued-goes t n x e (update n row v) (left (x .session) n row v t) test v refl q h .rest-decides))
+
+      pub insert-on : (d : Done) → SettlesAny (λ t. appendOf t n 65535 v) (x .session) n d → Serves lent lent (λ t. insertOf t n v) x n d
+      unfolding insertOf appendOf tests
+      insert-on d f ts e =
+          let t = lent ts in
+          f t (valued-open ts e)
+          ∙ ap (λ (w : Option ℕ). unless w t (relisted t n (listedAt (own t n) (own t n .count) 65535 v)))
+          (sym (valued-goes t n x e (insert n v) (listFull (session (meaning t) n) ∷ []) test v refl q h .rest-decides))
+
+  -- ---- with 4 and 5
+
+  module _ (x : Seat) (n : ℕ) (test : asked.Test) (q : whyOf test ≡ openedBy clock slots words heads log changes x n) where
+    pub delete-refused : (row : ℕ) (why : Refusal) (d : Done) → test ≡ No why → d ≡ refusing why → Serves lent lent (λ t. deleteOf t n row) x n d
+    unfolding deleteOf tests
+    delete-refused row why d h k =
+        opened-refused clock slots words heads log changes x n (delete n row) (put (x .session) n row 255) test why h d k (left (x .session) n row 255) (λ t. refl) q
+
+    module _ (h : test ≡ Passed) where
+      pub opened-usable : Usable clock slots words heads log changes (x .session)
+      opened-usable =
+          let p = opened-passed clock slots words heads log changes x n test h q in
+          record { room = p .room; good = p .good; start-old = p .start-old; rows-few = p .rows-few; count-low = p .count-low }
+
+      pub delete-on : (row : ℕ) (d : Done) → Settles lent lent (λ t. changeOf t n row 255) (x .session) n d → Serves lent lent (λ t. deleteOf t n row) x n d
+      unfolding deleteOf changeOf tests
+      delete-on row d f ts e =
+          let t = lent ts in
+          let rest = left (x .session) n row 255 t in
+          let g = opened-goes t n x e (delete n row) rest test refl q h in
+          let s = opened-shows t n x e (delete n row) rest test refl q h in
+          f ts (record { room = g .room; good = g .good; place-low = s .place-low; own-there = s .own-there; live-one = s .live-one })
+          ∙ ap (λ (w : Option ℕ). unless w t (put (x .session) n row 255 t)) (sym (g .rest-decides))

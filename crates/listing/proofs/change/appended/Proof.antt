@@ -1,0 +1,43 @@
+-- `change::appended` meets its contract: the list is full, or has an entry more.
+-- Assumes nothing.
+use borrow.Author.Needs.{needs}
+use Rattle.listing.proofs.ChangeLaws.{append-full, append-more}
+use Rattle.listing.proofs.change.appended.Statement.{statement}
+use Rattle.listing.proofs.change.appended.Tie as tie
+
+refused-requires : tie.Need-refused-requires
+refused-requires c κs = search needs
+
+returns : tie.Need-returns
+returns c = search append-full
+
+wide-requires : tie.Need-wide-requires
+wide-requires c κs = search needs
+
+add-with-entry : tie.Need-add-with-entry
+add-with-entry c = search needs
+
+with-entry-requires : tie.Need-with-entry-requires
+with-entry-requires c κs = search needs
+
+add-t10 : tie.Need-add-t10
+add-t10 c = search needs
+
+seated-requires : tie.Need-seated-requires
+seated-requires c κs = search needs
+
+returns-2 : tie.Need-returns-2
+returns-2 c = search append-more
+
+pub appended-spec : {M : Type 1} → statement M
+appended-spec =
+    tie.close
+    (tie.spec
+    refused-requires
+    returns
+    wide-requires
+    add-with-entry
+    with-entry-requires
+    add-t10
+    seated-requires
+    returns-2)

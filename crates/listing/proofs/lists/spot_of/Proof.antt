@@ -1,0 +1,64 @@
+-- `lists::spot_of` meets its contract: no entry so far has the row.
+-- Assumes nothing.
+use mathlib.Core.Path.{_≡_}
+use mathlib.Core.Option.{none}
+use Prim.Native.Nat.{_-_, _≤_}
+use native.Mathlib.Omega.{arith}
+use borrow.Author.Needs.{needs}
+use Rattle.bits.specs.Rows.{smallestBelow}
+use Rattle.calls.proofs.ListLaws.{hasRow, spot-start, spot-here, spot-past, spot-none}
+use Rattle.listing.proofs.lists.spot_of.Statement.{statement}
+use Rattle.listing.proofs.lists.spot_of.Tie as tie
+
+abbrev Inv-loop : tie.InvT-loop
+Inv-loop row s n i₀ i = (i ≤ n) × (smallestBelow (hasRow s (row .0)) i ≡ none)
+
+abbrev μ-loop : tie.MeasureT-loop
+μ-loop row s n i₀ i = n - i
+
+wide-requires : tie.Need-wide-requires Inv-loop μ-loop
+wide-requires c κs = search needs
+
+loop-holds : tie.Need-loop-holds Inv-loop μ-loop
+loop-holds c = (omega arith, search spot-start)
+
+mul-long : tie.Need-mul-long Inv-loop μ-loop
+mul-long c = omega arith
+
+element-copy-out-long : tie.Need-element-copy-out-long Inv-loop μ-loop
+element-copy-out-long c = search needs
+
+long-requires : tie.Need-long-requires Inv-loop μ-loop
+long-requires c κs = search needs
+
+returns : tie.Need-returns Inv-loop μ-loop
+returns c = search spot-here
+
+add-i : tie.Need-add-i Inv-loop μ-loop
+add-i c = omega arith
+
+loop-less : tie.Need-loop-less Inv-loop μ-loop
+loop-less c = omega arith
+
+loop-again : tie.Need-loop-again Inv-loop μ-loop
+loop-again c = (omega arith, search spot-past)
+
+returns-2 : tie.Need-returns-2 Inv-loop μ-loop
+returns-2 c = search spot-none
+
+pub spot-of-spec : {M : Type 1} → statement M
+spot-of-spec =
+    tie.close
+    (tie.spec
+    Inv-loop
+    μ-loop
+    wide-requires
+    loop-holds
+    mul-long
+    element-copy-out-long
+    long-requires
+    returns
+    add-i
+    loop-less
+    loop-again
+    returns-2)

@@ -1,0 +1,18 @@
+-- `lists::target_of` meets its contract: 255, or a value.
+-- Assumes nothing.
+use borrow.Author.Needs.{needs}
+use Rattle.calls.proofs.ListLaws.{target-absent, target-holds}
+use Rattle.listing.proofs.lists.target_of.Statement.{statement}
+use Rattle.listing.proofs.lists.target_of.Tie as tie
+
+returns : tie.Need-returns
+returns c = search target-absent
+
+wide-byte-requires : tie.Need-wide-byte-requires
+wide-byte-requires c κs = search needs
+
+returns-2 : tie.Need-returns-2
+returns-2 c = search target-holds
+
+pub target-of-spec : {M : Type 1} → statement M
+target-of-spec = tie.close (tie.spec returns wide-byte-requires returns-2)
