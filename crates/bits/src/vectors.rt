@@ -183,5 +183,8 @@ pub fn tails_clear(words: &[u64], n: usize, row: usize) -> bool
     if 32 <= j {
         return true;
     }
-    ((word_of_all(words, n, j) >> (row % 64)) == 0) & zero_in_all(words, n, j + 1)
+    if (word_of_all(words, n, j) >> (row % 64)) != 0 {
+        return false;
+    }
+    zero_in_all(words, n, j + 1)
 }

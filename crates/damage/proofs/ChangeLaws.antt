@@ -1,9 +1,12 @@
--- The changes: all flip sets by one number, the rows by each record, and the rows of all at once where that settles it.
+-- The changes: all flip sets by one number, and the rows of all records of one row count at once.
 -- Assumes nothing.
 use mathlib.Core.Path.{_≡_, sym, ap, ap₂, _∙_}
 use mathlib.Core.Bool.{Bool, true, false, not, _&&_}
 use mathlib.Core.List.{List}
-use Prim.Native.Nat.{ℕ, suc, _+_, _/_, _^_, _≤_, _<_}
+use mathlib.Core.Logic.{_⊎_, inl, inr}
+use Prim.Native.Nat.{ℕ, zero, suc, _+_, _/_, _^_, _≤_, _<_}
+use native.Mathlib.Nat.{eq-or-lt-of-le, le-of-suc-le-suc}
+use native.Mathlib.Numerals.{add-one}
 use native.Mathlib.Omega.{arith}
 use borrow.Author.Tests.{lt-ltb, ltb-true, not-true, not-false}
 use lib.Dec.{eqb}
@@ -12,12 +15,13 @@ use Rattle.bits.specs.OrWords.{orBelow, or-clear}
 use Rattle.bits.specs.Cases.{same-truth}
 use Rattle.bits.specs.Sets.{setBelow, below-shr, below-lt, lt-below}
 use Rattle.tables.specs.declared.clock.Clock.{Clock}
-use Rattle.tables.specs.Cells.{valuesIn, firstIn, stampIn, changesIn, rowsAt, endAt, changeRow, changeSet}
+use Rattle.tables.specs.Cells.{valuesIn, firstIn, stampIn, changesIn, recordRows, recordEnd, endAt, changeRow, changeSet}
 use Rattle.tables.specs.Clock.{clockIn}
 use Rattle.tables.specs.Damage.{allIn, clockFits, recordsFit, changesFit}
 use Rattle.tables.proofs.Tests.{both, and-both}
-use Rattle.tables.proofs.Facts.{in-at, in-of, clock-limits, end-next, rows-next, end-high, first-low, each-change, change-now, changes-made}
-use Rattle.damage.specs.Parts.{rowBelow, recordRowsFit, EndsLow}
+use Rattle.tables.proofs.Facts.{in-at, in-of, clock-limits, end-next, ends-order, rows-order, end-high, each-change, change-now, changes-made}
+use Rattle.damage.specs.Parts.{rowBelow, recordRowsFit, Alike, Rising}
+use Rattle.damage.proofs.Fold.{in-none, in-join, in-one}
 
 -- the OR of numbers is below 2 ^ c exactly if each is
 pub or-below : (g : ℕ → ℕ) (n c : ℕ) → setBelow (orBelow g n) c ≡ allBelow (λ p. setBelow (g p) c) n
@@ -36,25 +40,86 @@ lt-row : (changes : List ℕ) (rows p : ℕ) → changeRow changes p < rows → 
 unfolding rowBelow
 lt-row changes rows p = lt-ltb (changeRow changes p) rows
 
-module _ (first : ℕ) (log changes : List ℕ) (k : ℕ) where
-  record-at : recordRowsFit first log changes k ≡ true → (p : ℕ) → endAt log k ≤ p → p < endAt log (suc k) → changeRow changes p < rowsAt first log (suc k)
+module _ (log changes : List ℕ) (k : ℕ) where
+  record-at : recordRowsFit log changes k ≡ true → (p : ℕ) → endAt log k ≤ p → p < recordEnd log k → changeRow changes p < recordRows log k
   unfolding recordRowsFit
-  record-at e p h l =
-      rw (rows-next first log k) at (row-lt changes (rowsAt first log (k + 1)) p
-      (in-at (rowBelow changes (rowsAt first log (k + 1))) (endAt log k) (endAt log (k + 1)) e p h (rw (end-next log k) l)))
+  record-at e p h l = row-lt changes (recordRows log k) p (in-at (rowBelow changes (recordRows log k)) (endAt log k) (recordEnd log k) e p h l)
 
-  record-of : ((p : ℕ) → endAt log k ≤ p → p < endAt log (suc k) → changeRow changes p < rowsAt first log (suc k)) → recordRowsFit first log changes k ≡ true
+  record-of : ((p : ℕ) → endAt log k ≤ p → p < recordEnd log k → changeRow changes p < recordRows log k) → recordRowsFit log changes k ≡ true
   unfolding recordRowsFit
-  record-of h =
-      rw (rows-next first log k, end-next log k)
-      (in-of (rowBelow changes (rowsAt first log (suc k))) (endAt log k) (endAt log (suc k)) (λ p m n. lt-row changes (rowsAt first log (suc k)) p (h p m n)))
+  record-of h = in-of (rowBelow changes (recordRows log k)) (endAt log k) (recordEnd log k) (λ p m n. lt-row changes (recordRows log k) p (h p m n))
 
--- the changes of one record, with the numbers that the code copied
-pub one-record : (first : ℕ) (log changes : List ℕ) (k from to rows : ℕ) (b : Bool) → from ≡ endAt log k → to ≡ endAt log (k + 1)
-    → rows ≡ rowsAt first log (k + 1) → b ≡ allIn (rowBelow changes rows) from to → b ≡ recordRowsFit first log changes k
-unfolding recordRowsFit
-one-record first log changes k from to rows b e f g q =
-    q ∙ ap₂ (λ (x y : ℕ). allIn (rowBelow changes rows) x y) e f ∙ ap (λ (x : ℕ). allIn (rowBelow changes x) (endAt log k) (endAt log (k + 1))) g
+  -- a record of that row count
+  record-is : (rows : ℕ) → recordRows log k ≡ rows → allIn (recordRowsFit log changes) k (suc k) ≡ allIn (rowBelow changes rows) (endAt log k) (endAt log (suc k))
+  unfolding recordRowsFit
+  record-is rows e =
+      ap (allIn (recordRowsFit log changes) k) (sym (add-one k)) ∙ in-one (recordRowsFit log changes) k
+      ∙ ap (λ (x : ℕ). allIn (rowBelow changes x) (endAt log k) (recordEnd log k)) e
+
+-- ---- records of one row count
+
+module _ (log changes : List ℕ) (n : ℕ) (r : Rising log n) where
+  abbrev fits : ℕ → ℕ → Bool
+  fits k e = allIn (recordRowsFit log changes) k e
+
+  abbrev low : ℕ → ℕ → ℕ → Bool
+  low rows k e = allIn (rowBelow changes rows) (endAt log k) (endAt log e)
+
+  -- their changes are one stretch, and are judged as one
+  together : (rows k e : ℕ) → k ≤ e → e ≤ n → ((j : ℕ) → k ≤ j → j < e → recordRows log j ≡ rows) → fits k e ≡ low rows k e
+  together rows k zero h l f = in-none (recordRowsFit log changes) k 0 (omega arith) ∙ sym (in-none (rowBelow changes rows) (endAt log k) 0 (omega arith))
+  together rows k (suc e) h l f = go (eq-or-lt-of-le h) (λ m. together rows k e m (omega arith) (λ j p q. f j p (omega arith)))
+    where
+      go : (k ≡ suc e) ⊎ (k < suc e) → (k ≤ e → fits k e ≡ low rows k e) → fits k (suc e) ≡ low rows k (suc e)
+      go (inl z) ih =
+          in-none (recordRowsFit log changes) k (suc e) (omega arith)
+          ∙ sym (in-none (rowBelow changes rows) (endAt log k) (endAt log (suc e)) (rw z (omega arith)))
+      go (inr m) ih =
+          in-join (recordRowsFit log changes) k e (suc e) (omega arith) (omega arith)
+          ∙ ap₂ (λ (x y : Bool). x && y) (ih (le-of-suc-le-suc m)) (record-is log changes e rows (f e (omega arith) (omega arith)))
+          ∙ sym (in-join (rowBelow changes rows) (endAt log k) (endAt log e) (endAt log (suc e)) (r .ends-rise k e (omega arith) (omega arith)) (r .ends-rise e (suc e) (omega arith) l))
+
+  module _ (k e : ℕ) (a : Alike log k e n) where
+    -- "row counts never fall": those between have it too
+    one-count : (j : ℕ) → k ≤ j → j < suc e → recordRows log j ≡ recordRows log e
+    one-count j h l = omega (arith, r .rows-rise k j h (omega (arith, a .in-use)), r .rows-rise j e (omega arith) (a .in-use), a .same-rows)
+
+    -- the records from k + 1 on, as that stretch and the rest
+    stretch : fits k n ≡ low (recordRows log e) k (suc e) && fits (e + 1) n
+    stretch =
+        in-join (recordRowsFit log changes) k (suc e) n (omega (arith, a .not-before)) (a .in-use)
+        ∙ ap₂ (λ (x y : Bool). x && y) (together (recordRows log e) k (suc e) (omega (arith, a .not-before)) (a .in-use) one-count)
+        (ap (λ (x : ℕ). fits x n) (sym (add-one e)))
+
+    -- with the numbers that the code copied
+    module _ (from to : ℕ) (w t : Bool) (x : from ≡ endAt log k) (y : to ≡ recordEnd log e) (z : w ≡ fits k n) (q : t ≡ allIn (rowBelow changes (recordRows log e)) from to) where
+      judged : w ≡ t && fits (e + 1) n
+      judged = z ∙ stretch ∙ ap (λ (b : Bool). b && fits (e + 1) n) (sym (q ∙ ap₂ (allIn (rowBelow changes (recordRows log e))) x y))
+
+      pub stretch-again : not t ≡ false → w ≡ fits (e + 1) n
+      stretch-again h = judged ∙ ap (λ (b : Bool). b && fits (e + 1) n) (not-false t h)
+
+      pub stretch-fails : not t ≡ true → false ≡ w
+      stretch-fails h = sym (judged ∙ ap (λ (b : Bool). b && fits (e + 1) n) (not-true t h))
+
+    pub stretch-low : (to : ℕ) → to ≡ recordEnd log e → to ≤ 2048
+    stretch-low to y = omega (arith, r .ends-low (suc e) (a .in-use))
+
+pub stretch-ends : (log : List ℕ) (e to : ℕ) → to ≡ recordEnd log e → to ≡ endAt log (e + 1)
+stretch-ends log e to y = y ∙ sym (end-next log e)
+
+-- the search for the last of them
+pub alike-made : (log : List ℕ) (k e n : ℕ) → k ≤ e → e < n → recordRows log e ≡ recordRows log k → Alike log k e n
+alike-made log k e n h l q = record { not-before = h; in-use = l; same-rows = q }
+
+pub alike-next : (log : List ℕ) (k f rows : ℕ) → rows ≡ recordRows log k → recordRows log f ≡ rows → recordRows log f ≡ recordRows log k
+alike-next log k f rows e q = q ∙ e
+
+pub alike-then : (log : List ℕ) (k e f n : ℕ) → Alike log k e n → Alike log e f n → Alike log k f n
+alike-then log k e f n a b = record { not-before = omega (arith, a .not-before, b .not-before); in-use = b .in-use; same-rows = b .same-rows ∙ a .same-rows }
+
+pub alike-low : (log : List ℕ) (k e n : ℕ) → Alike log k e n → e < n
+alike-low log k e n a = a .in-use
 
 -- ---- where the records are sound
 
@@ -63,7 +128,7 @@ module _ (c log changes : List ℕ) (r : recordsFit c log ≡ true) where
   sets = setBelow (orBelow (changeSet changes) (changesIn c)) (valuesIn c)
 
   abbrev rows : Bool
-  rows = allBelow (recordRowsFit (firstIn c) log changes) (stampIn c)
+  rows = allBelow (recordRowsFit log changes) (stampIn c)
 
   set-at : sets ≡ true → (p : ℕ) → p < changesIn c → changeSet changes p < 2 ^ valuesIn c
   set-at e p h =
@@ -77,31 +142,24 @@ module _ (c log changes : List ℕ) (r : recordsFit c log ≡ true) where
       (λ e. and-both sets rows
       (or-below (changeSet changes) (changesIn c) (valuesIn c)
       ∙ all-of (λ p. setBelow (changeSet changes p) (valuesIn c)) (changesIn c) (λ p l. lt-below (changeSet changes p) (valuesIn c) (change-now c log changes r e p l .set-low)))
-      (all-of (recordRowsFit (firstIn c) log changes) (stampIn c) (λ k l. record-of (firstIn c) log changes k (λ p m n. each-change c log changes e k p l m n .row-low))))
+      (all-of (recordRowsFit log changes) (stampIn c) (λ k l. record-of log changes k (λ p m n. each-change c log changes e k p l m n .row-low))))
       (λ e. changes-made c log changes
       (λ k p l m n. record {
-        row-low = record-at (firstIn c) log changes k (all-at (recordRowsFit (firstIn c) log changes) (stampIn c) (both sets rows e .1) k l) p m n;
+        row-low = record-at log changes k (all-at (recordRowsFit log changes) (stampIn c) (both sets rows e .1) k l) p m n;
         set-low = set-at (both sets rows e .0) p (omega (arith, end-high c log r (suc k) l));
       }))
 
-  -- "row counts never fall": rows below the first row count are below each
-  rows-fast : allIn (rowBelow changes (firstIn c)) 0 (changesIn c) ≡ true → rows ≡ true
-  rows-fast e =
-      all-of (recordRowsFit (firstIn c) log changes) (stampIn c)
-      (λ k l. record-of (firstIn c) log changes k
-      (λ p m n. omega (arith, row-lt changes (firstIn c) p (in-at (rowBelow changes (firstIn c)) 0 (changesIn c) e p (omega arith) (omega (arith, end-high c log r (suc k) l))), first-low c log r (suc k) l)))
-
 -- ---- what the code asks, with the numbers that it copied
 
-pub ends-low : (clock log : List ℕ) (c : Clock) → clockFits clock ≡ true → recordsFit clock log ≡ true → c ≡ clockIn clock → EndsLow log (c .stamp .0)
-unfolding EndsLow clockIn
-ends-low clock log c f r e k h =
-    let z : c .stamp .0 ≡ stampIn clock = ap (λ (x : Clock). x .stamp .0) e in
-    omega (arith, end-high clock log r k (omega arith), clock-limits clock f .few-changes)
-
-pub end-low : (log : List ℕ) (n k : ℕ) → EndsLow log n → k < n → endAt log (k + 1) ≤ 2048
-unfolding EndsLow
-end-low log n k h l = h (k + 1) (omega arith)
+pub rising : (clock log : List ℕ) (c : Clock) (n : ℕ) → clockFits clock ≡ true → recordsFit clock log ≡ true → c ≡ clockIn clock → n ≡ c .stamp .0 → Rising log n
+unfolding clockIn
+rising clock log c n f r e o =
+    let z : n ≡ stampIn clock = o ∙ ap (λ (x : Clock). x .stamp .0) e in
+    record {
+      rows-rise = λ a b h l. rows-order clock log r (suc a) (suc b) (omega arith) (omega arith);
+      ends-rise = λ a b h l. ends-order clock log r a b h (omega arith);
+      ends-low = λ k h. omega (arith, end-high clock log r k (omega arith), clock-limits clock f .few-changes);
+    }
 
 module _ (clock log changes : List ℕ) (c : Clock) (u n set : ℕ) (t : Bool) (e : c ≡ clockIn clock) (i : u ≡ changesIn clock) (o : n ≡ u)
     (r : recordsFit clock log ≡ true) (q : set ≡ orBelow (changeSet changes) n) (y : t ≡ setBelow set (c .values .0)) where
@@ -116,18 +174,9 @@ module _ (clock log changes : List ℕ) (c : Clock) (u n set : ℕ) (t : Bool) (
   pub bad-sets : not t ≡ true → false ≡ changesFit clock log changes
   bad-sets h = sym (changes-split clock log changes r ∙ ap (λ (x : Bool). x && rows clock log changes r) (sym sets-are ∙ not-true t h))
 
-  -- all rows below the first row count
-  pub low-rows : (b : Bool) → not t ≡ false → b ≡ allIn (rowBelow changes (c .first .0)) 0 n → b ≡ true → true ≡ changesFit clock log changes
-  unfolding clockIn
-  low-rows b h p z =
-      let f : c .first .0 ≡ firstIn clock = ap (λ (x : Clock). x .first .0) e in
-      sym (changes-split clock log changes r
-      ∙ and-both (sets clock log changes r) (rows clock log changes r) (sym sets-are ∙ not-false t h)
-      (rows-fast clock log changes r (ap₂ (λ (x k : ℕ). allIn (rowBelow changes x) 0 k) (sym f) (sym used) ∙ sym p ∙ z)))
-
   -- the rows of each record
-  pub each-rows : (b : Bool) → not t ≡ false → b ≡ allBelow (recordRowsFit (c .first .0) log changes) (c .stamp .0) → b ≡ changesFit clock log changes
+  pub each-rows : (m : ℕ) (b : Bool) → not t ≡ false → m ≡ c .stamp .0 → b ≡ allBelow (recordRowsFit log changes) m → b ≡ changesFit clock log changes
   unfolding clockIn
-  each-rows b h p =
-      p ∙ ap₂ (λ (x k : ℕ). allBelow (recordRowsFit x log changes) k) (ap (λ (x : Clock). x .first .0) e) (ap (λ (x : Clock). x .stamp .0) e)
+  each-rows m b h g p =
+      p ∙ ap (allBelow (recordRowsFit log changes)) (g ∙ ap (λ (x : Clock). x .stamp .0) e)
       ∙ ap (λ (x : Bool). x && rows clock log changes r) (sym (sym sets-are ∙ not-false t h)) ∙ sym (changes-split clock log changes r)

@@ -8,7 +8,7 @@ use lib.Dec.{leb, eqb, ltb}
 use lib.ListN.{length, getD}
 use Rattle.bits.specs.All.{allBelow}
 use Rattle.tables.specs.declared.clock.Clock.{Clock}
-use Rattle.tables.specs.Cells.{slotValue, slotStamp, slotLink, rowsAt, endAt, changeRow}
+use Rattle.tables.specs.Cells.{slotValue, slotStamp, slotLink, recordRows, recordEnd, rowsAt, endAt, changeRow}
 use Rattle.tables.specs.Damage.{allIn, entryFits}
 
 -- the row of change p is below `rows`
@@ -16,12 +16,20 @@ unfoldable pub rowBelow : List ℕ → ℕ → ℕ → Bool
 rowBelow changes rows p = ltb (changeRow changes p) rows
 
 -- the rows of the changes of record k + 1 are below its row count
-unfoldable pub recordRowsFit : ℕ → List ℕ → List ℕ → ℕ → Bool
-recordRowsFit first log changes k = allIn (rowBelow changes (rowsAt first log (k + 1))) (endAt log k) (endAt log (k + 1))
+unfoldable pub recordRowsFit : List ℕ → List ℕ → ℕ → Bool
+recordRowsFit log changes k = allIn (rowBelow changes (recordRows log k)) (endAt log k) (recordEnd log k)
 
--- the changes of the first n records end within the table
-unfoldable pub EndsLow : List ℕ → ℕ → Type 0
-EndsLow log n = (k : ℕ) → k ≤ n → endAt log k ≤ 2048
+-- record e + 1, not before record k + 1 and one of the first n, has its row count
+pub record Alike (log : List ℕ) (k e n : ℕ) : Type 0 where
+  pub not-before : k ≤ e
+  pub in-use : e < n
+  pub same-rows : recordRows log e ≡ recordRows log k
+
+-- row counts and ends of the first n records never fall, and the ends lie within the table
+pub record Rising (log : List ℕ) (n : ℕ) : Type 0 where
+  pub rows-rise : (a b : ℕ) → a ≤ b → b < n → recordRows log a ≤ recordRows log b
+  pub ends-rise : (a b : ℕ) → a ≤ b → b ≤ n → endAt log a ≤ endAt log b
+  pub ends-low : (k : ℕ) → k ≤ n → endAt log k ≤ 2048
 
 -- slot i links to an earlier slot of its value with a smaller stamp
 unfoldable pub linkFits : List ℕ → ℕ → Bool

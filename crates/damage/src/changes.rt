@@ -1,16 +1,15 @@
 // The changes: rows below their record's row count, sets below C.
 // Assumes nothing.
 use tables::Row;
-use tables::Stamp;
 ghost use mathlib.Core.Path.{_≡_};
 ghost use mathlib.Core.Bool.{true};
-ghost use Prim.Native.Nat.{_+_, _<_, _≤_};
+ghost use Prim.Native.Nat.{_<_, _≤_};
 ghost use lib.ListN.{length};
 ghost use Rattle.bits.specs.All.{allBelow};
 ghost use Rattle.bits.specs.OrWords.{orBelow};
-ghost use Rattle.tables.specs.Cells.{endAt, changeSet};
+ghost use Rattle.tables.specs.Cells.{changeSet};
 ghost use Rattle.tables.specs.Damage.{allIn, clockFits, recordsFit, changesFit};
-ghost use Rattle.damage.specs.Parts.{rowBelow, recordRowsFit, EndsLow};
+ghost use Rattle.damage.specs.Parts.{rowBelow, recordRowsFit, Alike, Rising};
 
 // The flip sets of the first n changes, as one set.
 fn sets_of(changes: &[u32], n: usize) -> u32
@@ -40,34 +39,56 @@ fn rows_below(changes: &[u32], from: usize, to: usize, rows: Row) -> bool
     ok
 }
 
-// Whether the changes of the record after stamp `before` have rows below its row count.
-fn record_rows_fit(log: &[u32], changes: &[u32], first: Row, before: Stamp) -> bool
-    requires { ⌜ (before .0 < 512) × (2048 ≤ length (now log)) × (4096 ≤ length (now changes)) × (endAt (now log) (before .0 + 1) ≤ 2048) ⌝ }
-    ensures { λ r. ⌜ r ≡ recordRowsFit (first .0) (now (log .entry)) (now (changes .entry)) (before .0) ⌝ }
+// Of the records k + 1, k + 1 + step, .. up to n, the last before the row count changes.
+fn alike_by(log: &[u32], k: usize, n: usize, step: usize) -> usize
+    requires { ⌜ (k < n) × (n ≤ 512) × (0 < step) × (step ≤ 8) × (2048 ≤ length (now log)) ⌝ }
+    ensures { λ r. ⌜ Alike (now (log .entry)) k r n ⌝ }
 {
-    let own = Stamp(before.0 + 1);
-    let from = tables::end_at(log, before);
-    let to = tables::end_at(log, own);
-    let rows = tables::rows_at(log, first, own);
-    rows_below(changes, from, to, rows)
+    let rows = log[1024 + k];
+    let mut e = k;
+    while e + step < n {
+        if log[1024 + (e + step)] != rows {
+            return e;
+        }
+        e += step;
+    }
+    e
 }
 
-// Whether the changes of each of the records up to `last` have rows below its row count.
-fn each_rows_fit(log: &[u32], changes: &[u32], first: Row, last: Stamp) -> bool
-    requires { ⌜ (last .0 ≤ 512) × (2048 ≤ length (now log)) × (4096 ≤ length (now changes)) × EndsLow (now log) (last .0) ⌝ }
-    ensures { λ r. ⌜ r ≡ allBelow (recordRowsFit (first .0) (now (log .entry)) (now (changes .entry))) (last .0) ⌝ }
+// The last of the records k + 1 to n that has the row count of the first. Row counts never fall: so have those between.
+fn last_alike(log: &[u32], k: usize, n: usize) -> usize
+    requires { ⌜ (k < n) × (n ≤ 512) × (2048 ≤ length (now log)) ⌝ }
+    ensures { λ r. ⌜ Alike (now (log .entry)) k r n ⌝ }
 {
-    let mut k: u32 = 0;
-    while k < last.0 {
-        if !record_rows_fit(log, changes, first, Stamp(k)) {
+    let last = n - 1;
+    if log[1024 + last] == log[1024 + k] {
+        return last;
+    }
+    let e = alike_by(log, k, n, 8);
+    alike_by(log, e, n, 1)
+}
+
+// Whether the changes of each of the first n records have rows below its row count. Records of one row count are judged together.
+fn each_rows_fit(log: &[u32], changes: &[u32], n: usize) -> bool
+    requires { ⌜ (n ≤ 512) × (2048 ≤ length (now log)) × (4096 ≤ length (now changes)) × Rising (now log) n ⌝ }
+    ensures { λ r. ⌜ r ≡ allBelow (recordRowsFit (now (log .entry)) (now (changes .entry))) n ⌝ }
+{
+    let mut k: usize = 0;
+    let mut from: usize = 0;
+    while k < n {
+        let last = last_alike(log, k, n);
+        let rows = Row(log[1024 + last]);
+        let to = bits::wide(log[1536 + last]);
+        if !rows_below(changes, from, to, rows) {
             return false;
         }
-        k += 1;
+        from = to;
+        k = last + 1;
     }
     true
 }
 
-// Whether the changes are sound. Row counts never fall, so rows below the first one are below each.
+// Whether the changes are sound.
 pub fn changes_fit(clock: &[u32], log: &[u32], changes: &[u32]) -> bool
     requires { ⌜ (6 ≤ length (now clock)) × (2048 ≤ length (now log)) × (4096 ≤ length (now changes)) ⌝ }
     requires { ⌜ (clockFits (now clock) ≡ true) × (recordsFit (now clock) (now log) ≡ true) ⌝ }
@@ -78,8 +99,5 @@ pub fn changes_fit(clock: &[u32], log: &[u32], changes: &[u32]) -> bool
     if !bits::all_below(sets_of(changes, n), c.values.0) {
         return false;
     }
-    if rows_below(changes, 0, n, c.first) {
-        return true;
-    }
-    each_rows_fit(log, changes, c.first, c.stamp)
+    each_rows_fit(log, changes, bits::wide(c.stamp.0))
 }

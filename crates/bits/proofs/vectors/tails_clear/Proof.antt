@@ -1,12 +1,13 @@
--- `bits::vectors::tails_clear` meets its contract. From row 2,048 on there is nothing to test; else `tails-words` takes the one word of all vectors and those after it together.
+-- `bits::vectors::tails_clear` meets its contract. From row 2,048 on there is nothing to test; else `tails-words` takes the one word of all vectors and those after it together, and where the one word has a row the rest is not looked at.
 -- Assumes nothing.
-use mathlib.Core.Path.{sym, ap₂, _∙_}
+use mathlib.Core.Path.{sym, ap, ap₂, _∙_}
 use mathlib.Core.Bool.{Bool, _&&_}
-use Prim.Native.Nat.{ℕ, _/_, _%_, _^_}
+use Prim.Native.Nat.{ℕ, _+_, _/_, _%_, _^_}
 use native.Mathlib.Omega.{arith}
 use borrow.Author.Needs.{needs}
+use borrow.Author.Tests.{eq-eqb, ne-eqb}
 use lib.Dec.{eqb}
-use Rattle.bits.specs.Vectors.{tails-past, tails-words}
+use Rattle.bits.specs.Vectors.{tails-past, tails-words, zerosOfAll}
 use Rattle.bits.proofs.vectors.tails_clear.Statement.{statement}
 use Rattle.bits.proofs.vectors.tails_clear.Tie as tie
 
@@ -18,8 +19,15 @@ returns c =
 word-of-all-requires : tie.Need-word-of-all-requires
 word-of-all-requires c κs = search needs
 
-shr-result : tie.Need-shr-result
-shr-result c = search needs
+shr-if2 : tie.Need-shr-if2
+shr-if2 c = search needs
+
+returns-2 : tie.Need-returns-2
+returns-2 c =
+    let s = c .before .before .before .before .args in
+    ap (λ (t : Bool). t && zerosOfAll (s .words .now) (s .n) (s .row / 64 + 1))
+    (sym (ne-eqb (c .before .word-of-all .result / 2 ^ (s .row % 64)) 0 (c .if2 .taken)) ∙ ap (λ (w : ℕ). eqb (w / 2 ^ (s .row % 64)) 0) (c .before .word-of-all .ensures))
+    ∙ tails-words (s .words .now) (s .n) (s .row) (λ i. c .before .before .before .shared-slice-known .given i .fits) (omega arith) (omega arith)
 
 add-zero-in-all : tie.Need-add-zero-in-all
 add-zero-in-all c = search needs
@@ -27,11 +35,13 @@ add-zero-in-all c = search needs
 zero-in-all-requires : tie.Need-zero-in-all-requires
 zero-in-all-requires c κs = search needs
 
-returns-2 : tie.Need-returns-2
-returns-2 c =
-    let s = c .before .before .before .before .args in
-    ap₂ (λ (w : ℕ) (t : Bool). eqb (w / 2 ^ (s .row % 64)) 0 && t) (c .before .word-of-all .ensures) (c .zero-in-all .ensures)
-    ∙ tails-words (s .words .now) (s .n) (s .row) (λ i. c .before .before .before .shared-slice-known .given i .fits) (omega arith) (omega arith)
+returns-3 : tie.Need-returns-3
+returns-3 c =
+    let s = c .before .before .before .before .before .args in
+    ap₂ (λ (t z : Bool). t && z)
+    (sym (eq-eqb (c .before .before .word-of-all .result / 2 ^ (s .row % 64)) 0 (c .before .if2 .left)) ∙ ap (λ (w : ℕ). eqb (w / 2 ^ (s .row % 64)) 0) (c .before .before .word-of-all .ensures))
+    (c .zero-in-all .ensures)
+    ∙ tails-words (s .words .now) (s .n) (s .row) (λ i. c .before .before .before .before .shared-slice-known .given i .fits) (omega arith) (omega arith)
 
 pub tails-clear-spec : {M : Type 1} → statement M
 tails-clear-spec =
@@ -39,7 +49,8 @@ tails-clear-spec =
     (tie.spec
     returns
     word-of-all-requires
-    shr-result
+    shr-if2
+    returns-2
     add-zero-in-all
     zero-in-all-requires
-    returns-2)
+    returns-3)

@@ -1,9 +1,9 @@
--- `changes_fit` meets its contract: all sets at once, all rows at once, and else the rows of each record.
+-- `changes_fit` meets its contract: all sets at once, and the rows of each record.
 -- Assumes nothing.
 use native.Mathlib.Omega.{arith}
 use borrow.Author.Needs.{needs}
-use Rattle.damage.proofs.ClockLaws.{low-stamp, low-changes}
-use Rattle.damage.proofs.ChangeLaws.{ends-low, bad-sets, low-rows, each-rows}
+use Rattle.damage.proofs.ClockLaws.{low-records, low-changes}
+use Rattle.damage.proofs.ChangeLaws.{rising, bad-sets, each-rows}
 use Rattle.damage.proofs.changes.changes_fit.Statement.{statement}
 use Rattle.damage.proofs.changes.changes_fit.Tie as tie
 
@@ -25,17 +25,14 @@ all-below-requires c κs = search needs
 returns : tie.Need-returns
 returns c = search bad-sets
 
-rows-below-requires : tie.Need-rows-below-requires
-rows-below-requires c κs = (search low-changes, omega arith)
-
-returns-2 : tie.Need-returns-2
-returns-2 c = search low-rows
+wide-requires-2 : tie.Need-wide-requires-2
+wide-requires-2 c κs = search needs
 
 each-rows-fit-requires : tie.Need-each-rows-fit-requires
-each-rows-fit-requires c κs = (search low-stamp, omega arith, omega arith, search ends-low)
+each-rows-fit-requires c κs = (search low-records, omega arith, omega arith, search rising)
 
-returns-3 : tie.Need-returns-3
-returns-3 c = search each-rows
+returns-2 : tie.Need-returns-2
+returns-2 c = search each-rows
 
 pub changes-fit-spec : {M : Type 1} → statement M
 changes-fit-spec =
@@ -47,7 +44,6 @@ changes-fit-spec =
     sets-of-requires
     all-below-requires
     returns
-    rows-below-requires
-    returns-2
+    wide-requires-2
     each-rows-fit-requires
-    returns-3)
+    returns-2)

@@ -1,30 +1,60 @@
--- `each_rows_fit` meets its contract: a scan; the whole is the rest from here on.
+-- `each_rows_fit` meets its contract: a scan by stretches; the whole is the rest from here on.
 -- Assumes nothing.
-use mathlib.Core.Path.{_≡_}
+use mathlib.Core.Path.{_≡_, refl}
 use Prim.Native.Nat.{_-_}
 use native.Mathlib.Omega.{arith}
+use borrow.Author.Needs.{needs}
 use Rattle.bits.specs.All.{allBelow}
+use Rattle.tables.specs.Cells.{endAt}
 use Rattle.tables.specs.Damage.{allIn}
 use Rattle.damage.specs.Parts.{recordRowsFit}
-use Rattle.damage.proofs.Fold.{below-in, scan-again, scan-fails, scan-end}
-use Rattle.damage.proofs.ChangeLaws.{end-low}
+use Rattle.damage.proofs.Fold.{below-in, scan-end}
+use Rattle.damage.proofs.ChangeLaws.{stretch-again, stretch-fails, stretch-low, stretch-ends}
 use Rattle.damage.proofs.changes.each_rows_fit.Statement.{statement}
 use Rattle.damage.proofs.changes.each_rows_fit.Tie as tie
+use Rattle.bits.proofs.wide.Reads as wide-reads
+use Rattle.damage.proofs.changes.last_alike.Reads as last-alike-reads
+use Rattle.damage.proofs.changes.rows_below.Reads as rows-below-reads
 
 abbrev Inv-loop : tie.InvT-loop
-Inv-loop log changes first last k₀ k = allBelow (recordRowsFit (first .0) log changes) (last .0) ≡ allIn (recordRowsFit (first .0) log changes) k (last .0)
+Inv-loop log changes n k₀ from₀ k from =
+    (from ≡ endAt log k) × (allBelow (recordRowsFit log changes) n ≡ allIn (recordRowsFit log changes) k n)
 
 abbrev μ-loop : tie.MeasureT-loop
-μ-loop log changes first last k₀ k = last .0 - k
+μ-loop log changes n k₀ from₀ k from = n - k
 
 loop-holds : tie.Need-loop-holds Inv-loop μ-loop
-loop-holds c = search below-in
+loop-holds c = (refl, search below-in)
 
-record-rows-fit-requires : tie.Need-record-rows-fit-requires Inv-loop μ-loop
-record-rows-fit-requires c κs = (omega arith, omega arith, omega arith, search end-low)
+last-alike-requires : tie.Need-last-alike-requires Inv-loop μ-loop
+last-alike-requires c κs = search needs
+
+add-wide : tie.Need-add-wide Inv-loop μ-loop
+add-wide c = omega arith
+
+mul-wide : tie.Need-mul-wide Inv-loop μ-loop
+mul-wide c = omega arith
+
+shared-slice-read-wide : tie.Need-shared-slice-read-wide Inv-loop μ-loop
+shared-slice-read-wide c = omega arith
+
+add-wide-2 : tie.Need-add-wide-2 Inv-loop μ-loop
+add-wide-2 c = omega arith
+
+mul-wide-2 : tie.Need-mul-wide-2 Inv-loop μ-loop
+mul-wide-2 c = omega arith
+
+shared-slice-read-wide-2 : tie.Need-shared-slice-read-wide-2 Inv-loop μ-loop
+shared-slice-read-wide-2 c = omega arith
+
+wide-requires : tie.Need-wide-requires Inv-loop μ-loop
+wide-requires c κs = search needs
+
+rows-below-requires : tie.Need-rows-below-requires Inv-loop μ-loop
+rows-below-requires c κs = (search stretch-low, omega arith)
 
 returns : tie.Need-returns Inv-loop μ-loop
-returns c = search scan-fails
+returns c = search stretch-fails
 
 add-k : tie.Need-add-k Inv-loop μ-loop
 add-k c = omega arith
@@ -33,7 +63,7 @@ loop-less : tie.Need-loop-less Inv-loop μ-loop
 loop-less c = omega arith
 
 loop-again : tie.Need-loop-again Inv-loop μ-loop
-loop-again c = search scan-again
+loop-again c = (search stretch-ends, search stretch-again)
 
 returns-2 : tie.Need-returns-2 Inv-loop μ-loop
 returns-2 c = search scan-end
@@ -45,7 +75,15 @@ each-rows-fit-spec =
     Inv-loop
     μ-loop
     loop-holds
-    record-rows-fit-requires
+    last-alike-requires
+    add-wide
+    mul-wide
+    shared-slice-read-wide
+    add-wide-2
+    mul-wide-2
+    shared-slice-read-wide-2
+    wide-requires
+    rows-below-requires
     returns
     add-k
     loop-less

@@ -1,0 +1,40 @@
+-- "For each public call, input and refusal, the contract determines the answer and every cell of the lent tables and scratch
+-- afterwards": what that says of a contract.
+-- Assumes nothing.
+use mathlib.Core.Path.{_≡_}
+use mathlib.Core.List.{List}
+use Prim.Native.Nat.{ℕ}
+use Rattle.tables.specs.Cells.{Tables}
+use Rattle.calls.specs.declared.answers.Answer.{Answer}
+use Rattle.calls.specs.declared.answers.Place.{Place}
+use Rattle.calls.specs.Said.{said, placeOf}
+use Rattle.calls.specs.Outcome.{Outcome, outcome}
+use Rattle.calls.specs.Calls.{createOf, beginOf, readOf, updateOf, deleteOf, insertOf, commitOf, tidyOf, abortOf}
+use Rattle.calls.specs.Query.{QueryOutcome, queryOutcome, queryOf, pickedFrom}
+
+-- of the tables t, two tables afterwards with two answers that both meet the contract are the same
+abbrev pub Once : (Tables → Outcome) → Type 0
+Once call =
+    (t t₁ t₂ : Tables) (a₁ a₂ : Answer) → outcome t₁ (said a₁) ≡ call t → outcome t₂ (said a₂) ≡ call t → (t₁ ≡ t₂) × (a₁ ≡ a₂)
+
+-- the same with the scratch
+abbrev pub OnceAsked : (Tables → List ℕ → QueryOutcome) → Type 0
+OnceAsked call =
+    (t t₁ t₂ : Tables) (s s₁ s₂ : List ℕ) (a₁ a₂ : Answer)
+    → queryOutcome t₁ s₁ (said a₁) ≡ call t s → queryOutcome t₂ s₂ (said a₂) ≡ call t s
+    → (t₁ ≡ t₂) × (s₁ ≡ s₂) × (a₁ ≡ a₂)
+
+-- "show that no second outcome satisfies it": of each of the ten calls, and of the words that the picker returns
+pub record NoSecond : Type 0 where
+  pub create : (c : ℕ) (column : List ℕ) → Once (λ t. createOf t c column)
+  pub begin : (n : ℕ) → Once (λ t. beginOf t n)
+  pub query : (n v threshold : ℕ) → OnceAsked (λ t s. queryOf t s n v threshold)
+  pub read : (n row : ℕ) → Once (λ t. readOf t n row)
+  pub update : (n row v : ℕ) → Once (λ t. updateOf t n row v)
+  pub delete : (n row : ℕ) → Once (λ t. deleteOf t n row)
+  pub insert : (n v : ℕ) → Once (λ t. insertOf t n v)
+  pub commit : (n : ℕ) → Once (λ t. commitOf t n)
+  pub tidy : (n v : ℕ) → Once (λ t. tidyOf t n v)
+  pub abort : (n : ℕ) → Once (λ t. abortOf t n)
+  pub picked : (ws scratch : List ℕ) (place : Place) (p₁ p₂ : List ℕ)
+      → p₁ ≡ pickedFrom ws scratch (placeOf place) → p₂ ≡ pickedFrom ws scratch (placeOf place) → p₁ ≡ p₂
