@@ -1,0 +1,80 @@
+/* The index over lent tables, for C: the ten calls, and the picker of a query's words.
+ *
+ * The caller lends the tables and keeps them; a call writes only into them (and query into the scratch) and remembers
+ * nothing. Each table is a pointer and a length in elements. No pointer is null, each is aligned for its type, and no
+ * two overlap. A table that is too short is refused (1), and one that is longer is fine: cells beyond are kept.
+ *
+ *   clock     6     C, first row count, stamp, row count, slots in use, changes in use
+ *   slots     288   values from 0, stamps from 96, links from 192 (0 none, else the slot's number + 1)
+ *   words     3072  32 words a slot; row r is bit r mod 64 of word r div 64
+ *   heads     32    a slot number for each value
+ *   log       2048  stamps from 0, kinds from 512 (1 commit, 2 tidy), row counts from 1024, ends of changes from 1536
+ *   changes   4096  rows from 0, flip sets from 2048 (value v is bit v)
+ *   sessions  16
+ *   scratch   32    query only
+ */
+#ifndef KERENVUF_H
+#define KERENVUF_H
+
+#include <stddef.h>
+#include <stdint.h>
+
+enum {
+    KV_CLOCK = 6,
+    KV_SLOTS = 288,
+    KV_WORDS = 3072,
+    KV_HEADS = 32,
+    KV_LOG = 2048,
+    KV_CHANGES = 4096,
+    KV_SESSIONS = 16,
+    KV_SCRATCH = 32,
+    KV_ABSENT = 255,   /* a byte of a column, a target of a list */
+    KV_NEW = 65535,    /* the row cell of an entry that is an insert */
+    KV_THRESHOLD = 8   /* what a caller of kv_query passes who has no other */
+};
+
+/* A session: live 0 (free; then every cell is 0) or 1 (open). Entry i below count is row at[i] with target to[i], or an
+ * insert of to[i]. */
+typedef struct kv_session {
+    uint32_t live, start, rows, count;
+    uint16_t at[32];
+    uint8_t to[32];
+} kv_session;
+
+/* What an answer holds. Numbers that a kind does not name are 0. */
+enum {
+    KV_REFUSED = 0,  /* refusal is the number, 1 to 18; every table and the scratch are as they were */
+    KV_COUNT = 1,    /* create: a rows. update, delete, insert: a length of the list. abort: a length of the list dropped */
+    KV_STAMP = 2,    /* begin: a start stamp, b start row count. commit: a stamp, b row count. tidy: a stamp, b moved rows */
+    KV_VALUE = 3,    /* read: a value */
+    KV_GONE = 4,     /* read: the row is absent */
+    KV_ROWS = 5      /* query: a flip count, b 1 if a tidy is due, c place: 0 the scratch's first 32 words, k + 1 slot k's */
+};
+
+typedef struct kv_answer {
+    uint32_t refusal, kind, a, b, c;
+} kv_answer;
+
+/* The tables, as every call takes them. */
+#define KV_LENT                                                                                                 \
+    uint32_t *clock, size_t clock_len, uint32_t *slots, size_t slots_len, uint64_t *words, size_t words_len,    \
+        uint32_t *heads, size_t heads_len, uint32_t *log, size_t log_len, uint32_t *changes, size_t changes_len, \
+        kv_session *sessions, size_t sessions_len
+
+kv_answer kv_create(KV_LENT, uint64_t values, const uint8_t *column, size_t column_len);
+kv_answer kv_begin(KV_LENT, uint64_t session);
+kv_answer kv_query(KV_LENT, uint64_t *scratch, size_t scratch_len, uint64_t session, uint64_t value, uint64_t threshold);
+kv_answer kv_read(KV_LENT, uint64_t session, uint64_t row);
+kv_answer kv_update(KV_LENT, uint64_t session, uint64_t row, uint64_t value);
+kv_answer kv_delete(KV_LENT, uint64_t session, uint64_t row);
+kv_answer kv_insert(KV_LENT, uint64_t session, uint64_t value);
+kv_answer kv_commit(KV_LENT, uint64_t session);
+kv_answer kv_tidy(KV_LENT, uint64_t session, uint64_t value);
+kv_answer kv_abort(KV_LENT, uint64_t session);
+
+/* The 32 words that a query's place names, copied to out: answers 32; or 0, and out is as it was, where those words were
+ * not lent or out has fewer than 32. */
+uint32_t kv_picked(const uint64_t *words, size_t words_len, const uint64_t *scratch, size_t scratch_len, uint64_t place,
+                   uint64_t *out, size_t out_len);
+
+#endif
