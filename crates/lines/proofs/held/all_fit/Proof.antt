@@ -1,0 +1,57 @@
+-- `held::all_fit` meets its contract: the sessions before place i fit.
+-- Assumes nothing.
+use mathlib.Core.Path.{_≡_}
+use Prim.Native.Nat.{_≤_, _-_}
+use borrow.Author.Needs.{needs}
+use Rattle.lines.proofs.HeldLaws.{sixteen, fitsUpTo, fit-none, fit-more, fit-all}
+use Rattle.lines.proofs.held.all_fit.Statement.{statement}
+use Rattle.lines.proofs.held.all_fit.Tie as tie
+
+abbrev Inv-loop : tie.InvT-loop
+Inv-loop log c all ok₀ i₀ ok i = (i ≤ 16) × (ok ≡ fitsUpTo (all .at) log c i)
+
+abbrev μ-loop : tie.MeasureT-loop
+μ-loop log c all ok₀ i₀ ok i = 16 - i
+
+loop-holds : tie.Need-loop-holds Inv-loop μ-loop
+loop-holds c = (search needs, search fit-none)
+
+mul-s : tie.Need-mul-s Inv-loop μ-loop
+mul-s c = search needs
+
+element-copy-out-s : tie.Need-element-copy-out-s Inv-loop μ-loop
+element-copy-out-s c = search needs
+
+session-fits-requires : tie.Need-session-fits-requires Inv-loop μ-loop
+session-fits-requires c κs = search needs
+
+add-i : tie.Need-add-i Inv-loop μ-loop
+add-i c = search needs
+
+loop-less : tie.Need-loop-less Inv-loop μ-loop
+loop-less c = search needs
+
+loop-again : tie.Need-loop-again Inv-loop μ-loop
+loop-again c =
+    let n = sixteen (c .before .before .before .before .before .args .t1) (c .before .before .before .before .before .good .0) in
+    (search needs, search fit-more)
+
+returns : tie.Need-returns Inv-loop μ-loop
+returns c =
+    let n = sixteen (c .before .before .before .args .t1) (c .before .before .before .good .0) in
+    search fit-all
+
+pub all-fit-spec : {M : Type 1} → statement M
+all-fit-spec =
+    tie.close
+    (tie.spec
+    Inv-loop
+    μ-loop
+    loop-holds
+    mul-s
+    element-copy-out-s
+    session-fits-requires
+    add-i
+    loop-less
+    loop-again
+    returns)

@@ -1,0 +1,3 @@
+pub mod Turn
+pub mod Settled
+pub mod Line

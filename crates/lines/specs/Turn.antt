@@ -1,0 +1,58 @@
+-- What a line that was read comes to: the call on the tables, as the outer calls' definitions say it, and its answer in the rules' words.
+-- Assumes nothing.
+use mathlib.Core.Option.{Option, none, some}
+use mathlib.Core.List.{List, map}
+use Prim.Native.Nat.{ℕ}
+use Rattle.rules.specs.Calls.{Call, Answer, refused}
+use Rattle.rules.specs.Calls as rules
+use Rattle.tables.specs.Cells.{Tables}
+use Rattle.demands.specs.Asks.{Ask, create, begin, query, read, update, delete, insert, commit, tidy, abort, comesTo, told}
+
+-- the tables afterwards, the scratch afterwards, and the answer
+pub record Turn : Type 0 where
+  pub after : Tables
+  pub scratch : List ℕ
+  pub answer : Answer
+
+abbrev pub turn : Tables → List ℕ → Answer → Turn
+turn t s a = record { after = t; scratch = s; answer = a }
+
+-- "a column of bytes: a value, or 255 for absent"
+unfoldable pub byteFor : Option ℕ → ℕ
+byteFor none = 255
+byteFor (some v) = v
+
+-- a call of the rules as it is made on lent tables; a query is lent this scratch
+unfoldable pub askWith : List ℕ → Call → Ask
+askWith s (rules.create c col) = create c (map byteFor col)
+askWith s (rules.begin n) = begin n
+askWith s (rules.query n v threshold size) = query s n v threshold
+askWith s (rules.read n r) = read n r
+askWith s (rules.update n r v) = update n r v
+askWith s (rules.delete n r) = delete n r
+askWith s (rules.insert n v) = insert n v
+askWith s (rules.commit n) = commit n
+askWith s (rules.tidy n v) = tidy n v
+askWith s (rules.abort n) = abort n
+
+-- the scratch after a call: only query writes it
+unfoldable pub scratchAfter : List ℕ → Tables → Ask → List ℕ
+scratchAfter s t (create c col) = s
+scratchAfter s t (begin n) = s
+scratchAfter s t (query ws n v threshold) = comesTo t (query ws n v threshold) .scratch
+scratchAfter s t (read n r) = s
+scratchAfter s t (update n r v) = s
+scratchAfter s t (delete n r) = s
+scratchAfter s t (insert n v) = s
+scratchAfter s t (commit n) = s
+scratchAfter s t (tidy n v) = s
+scratchAfter s t (abort n) = s
+
+-- what a call comes to
+unfoldable pub made : Tables → List ℕ → Ask → Turn
+made t s a = turn (comesTo t a .after) (scratchAfter s t a) (told t a)
+
+-- "19: unreadable line, decided before the others", or the call
+unfoldable pub turnOf : Tables → List ℕ → Option Call → Turn
+turnOf t s none = turn t s (refused 19)
+turnOf t s (some c) = made t s (askWith s c)
