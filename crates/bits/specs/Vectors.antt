@@ -6,11 +6,12 @@ use mathlib.Core.List.{List}
 use mathlib.Core.Logic.{_⊎_, inl, inr, ⊎-elim}
 use Prim.Native.Nat.{ℕ, _+_, _-_, _*_, _/_, _%_, _^_, _≤_, _<_}
 use native.Mathlib.Omega.{arith}
+use lib.Bits.{bitOr}
 use lib.Dec.{eqb, lit<}
 use lib.ListN.{length, getD, List·getD-eq-default}
 use Rattle.bits.specs.Cases.{lt-cases}
-use Rattle.bits.specs.All.{allBelow, all-of, all-ext, all-and, all-swap}
-use Rattle.bits.specs.OrWords.{orBelow, or-clear, or-all}
+use Rattle.bits.specs.All.{allBelow, all-of, all-ext, all-and}
+use Rattle.bits.specs.OrWords.{orBelow, or-clear, orFrom, from-more, from-all}
 use Rattle.bits.specs.Bit.{bit}
 use Rattle.bits.specs.Part.{part, putPart, length-part, getD-part, getD-before, getD-within, getD-after, part-same, part-other}
 use Rattle.bits.specs.Words.{bitAt, Words}
@@ -108,7 +109,7 @@ vectorAt-vec f n i h = part-vec f n (32 * i) 32 h ∙ ap (λ (k : ℕ). vec (λ 
 pub vectorAt-self : (ws : List ℕ) (i : ℕ) → Words ws → 32 * i + 32 ≤ length ws → vectorAt ws i ≡ vec (λ r. bitAt ws (2048 * i + r)) 32
 vectorAt-self ws i w h = ap (λ (l : List ℕ). vectorAt l i) (sym (vec-bits ws w)) ∙ vectorAt-vec (bitAt ws) (length ws) i h
 
--- ---- no row from a count on in any vector, a word of all of them at a time
+-- ---- no row from a count on in any vector: the word where the count falls of all of them at a time, then the rest of each
 
 -- no row at or above `row` is set in any of the first n vectors
 unfoldable pub tailsClear : List ℕ → ℕ → ℕ → Bool
@@ -118,9 +119,24 @@ tailsClear ws n row = allBelow (λ i. tailClear (vectorAt ws i) row) n
 unfoldable pub wordOfAll : List ℕ → ℕ → ℕ → ℕ
 wordOfAll ws n j = orBelow (λ i. getD ws (32 * i + j) 0) n
 
+-- words `from` to 31 of vector i, as one word
+unfoldable pub restOf : List ℕ → ℕ → ℕ → ℕ
+restOf ws from i = orFrom (λ j. getD ws (32 * i + j) 0) from 32
+
+-- the loop that gathers them goes on, and comes to the end
+pub rest-more : (ws : List ℕ) (from a j all : ℕ) → from ≤ j → all ≡ orFrom (λ k. getD ws (a + k) 0) from j
+    → bitOr all (getD ws (a + j) 0) ≡ orFrom (λ k. getD ws (a + k) 0) from (j + 1)
+rest-more ws from a j all h q = from-more (λ k. getD ws (a + k) 0) from j all h q
+
+pub rest-end : (ws : List ℕ) (from i a j all : ℕ) → a ≡ 32 * i → j ≤ 32 → 32 ≤ j → all ≡ orFrom (λ k. getD ws (a + k) 0) from j → all ≡ restOf ws from i
+unfolding restOf
+rest-end ws from i a j all e h l q =
+    let z : j ≡ 32 = omega arith in
+    q ∙ ap₂ (λ (x y : ℕ). orFrom (λ k. getD ws (x + k) 0) from y) e z
+
 -- the words from `from` to 31 of each of the first n vectors are 0
 unfoldable pub zerosOfAll : List ℕ → ℕ → ℕ → Bool
-zerosOfAll ws n from = allBelow (λ k. eqb (wordOfAll ws n (from + k)) 0) (32 - from)
+zerosOfAll ws n from = allBelow (λ i. eqb (restOf ws from i) 0) n
 
 module _ (ws : List ℕ) (n row : ℕ) (w : Words ws) (fits : 32 * n ≤ length ws) where
   abbrev first : ℕ → Bool
@@ -138,18 +154,13 @@ module _ (ws : List ℕ) (n row : ℕ) (w : Words ws) (fits : 32 * n ≤ length 
       (λ i l. ap (λ (x : ℕ). eqb (x / 2 ^ (row % 64)) 0) (sym (getD-vectorAt ws i (omega arith) (row / 64) h)))
 
   laters : (from : ℕ) → zerosOfAll ws n from ≡ allBelow (λ i. zerosFrom (vectorAt ws i) from) n
-  unfolding zerosOfAll wordOfAll zerosFrom
+  unfolding zerosOfAll restOf zerosFrom
   laters from =
-      all-ext (λ k. eqb (wordOfAll ws n (from + k)) 0) (λ k. allBelow (λ i. zero? i k) n) (32 - from)
-      (λ k l. or-all (λ i. getD ws (32 * i + (from + k)) 0) n
-      ∙ all-ext (λ i. eqb (getD ws (32 * i + (from + k)) 0) 0) (λ i. zero? i k) n
-      (λ i m. ap (λ (x : ℕ). eqb x 0) (sym (getD-vectorAt ws i (omega arith) (from + k) (omega arith)))))
-      ∙ sym (all-swap zero? n (32 - from))
-      ∙ all-ext (λ i. allBelow (zero? i) (32 - from)) (λ i. zerosFrom (vectorAt ws i) from) n
-      (λ i m. ap (λ (x : ℕ). allBelow (zero? i) (x - from)) (sym (length-vectorAt ws i (omega arith))))
-    where
-      zero? : ℕ → ℕ → Bool
-      zero? i k = eqb (getD (vectorAt ws i) (from + k) 0) 0
+      all-ext (λ i. eqb (restOf ws from i) 0) (λ i. zerosFrom (vectorAt ws i) from) n
+      (λ i l. from-all (λ j. getD ws (32 * i + j) 0) from 32
+      ∙ all-ext (λ k. eqb (getD ws (32 * i + (from + k)) 0) 0) (λ k. eqb (getD (vectorAt ws i) (from + k) 0) 0) (32 - from)
+      (λ k m. ap (λ (x : ℕ). eqb x 0) (sym (getD-vectorAt ws i (omega arith) (from + k) (omega arith))))
+      ∙ ap (λ (x : ℕ). allBelow (λ k. eqb (getD (vectorAt ws i) (from + k) 0) 0) (x - from)) (sym (length-vectorAt ws i (omega arith))))
 
   pub tails-words : row / 64 < 32 → eqb (wordOfAll ws n (row / 64) / 2 ^ (row % 64)) 0 && zerosOfAll ws n (row / 64 + 1) ≡ tailsClear ws n row
   unfolding tailsClear

@@ -2,13 +2,13 @@
 // Assumes nothing.
 ghost use mathlib.Core.Path.{_≡_};
 ghost use mathlib.Core.Bool.{false};
-ghost use Prim.Native.Nat.{_*_, _≤_, _<_};
+ghost use Prim.Native.Nat.{_+_, _*_, _≤_, _<_};
 ghost use lib.ListN.{length};
 ghost use Rattle.bits.specs.Words.{bitAt, putBit, flipAt, putAt, xorWords};
 ghost use Rattle.bits.specs.Vec.{vec};
 ghost use Rattle.bits.specs.Rows.{countOf};
 ghost use Rattle.bits.specs.Tail.{tailClear, zerosFrom};
-ghost use Rattle.bits.specs.Vectors.{tailsClear, wordOfAll, zerosOfAll};
+ghost use Rattle.bits.specs.Vectors.{tailsClear, wordOfAll, restOf, zerosOfAll};
 
 // The word with bit k made `on`.
 fn with_bit(w: u64, k: usize, on: bool) -> u64
@@ -160,16 +160,31 @@ fn word_of_all(words: &[u64], n: usize, j: usize) -> u64
     all
 }
 
+// Words `from` to 31 of vector i, as one word.
+fn rest_of(words: &[u64], from: usize, i: usize) -> u64
+    requires { ⌜ (from ≤ 32) × (32 * i + 32 ≤ length (now words)) ⌝ }
+    ensures { λ r. ⌜ r ≡ restOf (now (words .entry)) from i ⌝ }
+{
+    let a = 32 * i;
+    let mut all: u64 = 0;
+    let mut j = from;
+    while j < 32 {
+        all = all | words[a + j];
+        j += 1;
+    }
+    all
+}
+
 // Whether words `from` to 31 of each of the first n vectors are 0.
 fn zero_in_all(words: &[u64], n: usize, from: usize) -> bool
     requires { ⌜ (from ≤ 32) × (32 * n ≤ length (now words)) ⌝ }
     ensures { λ r. ⌜ r ≡ zerosOfAll (now (words .entry)) n from ⌝ }
 {
     let mut all: u64 = 0;
-    let mut j = from;
-    while j < 32 {
-        all = all | word_of_all(words, n, j);
-        j += 1;
+    let mut i: usize = 0;
+    while i < n {
+        all = all | rest_of(words, from, i);
+        i += 1;
     }
     all == 0
 }

@@ -1,6 +1,6 @@
 -- A session's list: its entries looked at a step at a time.
 -- Assumes nothing.
-use mathlib.Core.Path.{_≡_, sym, ap, _∙_}
+use mathlib.Core.Path.{_≡_, sym, ap, ap₂, _∙_}
 use mathlib.Core.Bool.{Bool, true, false, not, _&&_}
 use mathlib.Core.List.{List}
 use mathlib.Core.Logic.{_⊎_, ⊎-elim}
@@ -9,7 +9,8 @@ use native.Mathlib.Omega.{arith}
 use borrow.Author.Tests.{le-leb, leb-true, not-false}
 use lib.Dec.{eqb}
 use lib.ListN.{getD}
-use Rattle.bits.specs.All.{allBelow, all-at}
+use Rattle.bits.specs.All.{allBelow, all-at, all-and}
+use Rattle.bits.specs.OrWords.{orBelow, or-all}
 use Rattle.bits.specs.Cases.{same-truth}
 use Rattle.rules.specs.Limits.{maxEntries}
 use Rattle.tables.specs.declared.session.Session.{Session}
@@ -19,6 +20,16 @@ use Rattle.tables.proofs.Sessions.{entry-facts}
 use Rattle.damage.specs.Parts.{zeroAt, listed, onceIn, RowsLow, entriesFit}
 use Rattle.damage.proofs.Truth.{not-so, found-false}
 use Rattle.damage.proofs.OnceLaws.{once-few}
+
+-- a list whose rows and targets, each gathered in one number, are 0
+pub zero-gathered : (at to : List ℕ) (i rows targets : ℕ) → rows ≡ orBelow (λ j. getD at j 0) i → targets ≡ orBelow (λ j. getD to j 0) i → i ≤ 32 → 32 ≤ i
+    → eqb rows 0 && eqb targets 0 ≡ allBelow (zeroAt at to) 32
+unfolding zeroAt
+zero-gathered at to i rows targets p q h l =
+    let z : i ≡ 32 = omega arith in
+    ap₂ (λ (x y : ℕ). eqb x 0 && eqb y 0) (p ∙ ap (orBelow (λ j. getD at j 0)) z) (q ∙ ap (orBelow (λ j. getD to j 0)) z)
+    ∙ ap₂ (λ (x y : Bool). x && y) (or-all (λ j. getD at j 0) 32) (or-all (λ j. getD to j 0) 32)
+    ∙ sym (all-and (λ j. eqb (getD at j 0) 0) (λ j. eqb (getD to j 0) 0) 32)
 
 -- a session that is all 0
 pub zero-session : (x : Session) (b : Bool) → b ≡ allBelow (zeroAt (x .at) (x .to)) 32

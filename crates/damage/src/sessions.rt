@@ -17,13 +17,15 @@ ghost use Rattle.damage.specs.Judged.{sessionJudged};
 fn list_zero<'a>(at: &'a [u16; 32], to: &'a [u8; 32]) -> bool
     ensures { λ r. ⌜ r ≡ allBelow (zeroAt (now (at .entry)) (now (to .entry))) 32 ⌝ }
 {
-    let mut ok = true;
+    let mut rows: u16 = 0;
+    let mut targets: u8 = 0;
     let mut i: usize = 0;
     while i < 32 {
-        ok = ok & ((at[i] == 0) & (to[i] == 0));
+        rows = rows | at[i];
+        targets = targets | to[i];
         i += 1;
     }
-    ok
+    (rows == 0) & (targets == 0)
 }
 
 // Whether a session is all 0.

@@ -3,7 +3,7 @@
 use mathlib.Core.Path.{_≡_, refl, _∙_}
 use mathlib.Core.List.{List, [], _∷_, _++_}
 use mathlib.Core.Option.{none}
-use Prim.Native.Nat.{ℕ, suc, _+_, _/_, _%_, _^_, _<_, _≤_}
+use Prim.Native.Nat.{ℕ, suc, _+_, _-_, _*_, _/_, _%_, _^_, _<_, _≤_}
 use native.Mathlib.Omega.{arith}
 use lib.ListN.{length, set, length-append, length-set}
 use lib.Seq.{sets}
@@ -33,9 +33,13 @@ wrote-then d a e b f at m n u v =
 
 -- ---- digits
 
-pub wrote-two : (d e f : List ℕ) (at m n a b r : ℕ) → a ≡ 48 + n / 10 → b ≡ 48 + n % 10 → Wrote d at (a ∷ []) e m → Wrote e m (b ∷ []) f r → Wrote d at (twoDigits n) f r
+pub wrote-two : (d e f : List ℕ) (at m n t a b r : ℕ) → t ≡ n / 10 → a ≡ 48 + t → b ≡ 48 + (n - 10 * t) → Wrote d at (a ∷ []) e m → Wrote e m (b ∷ []) f r
+    → Wrote d at (twoDigits n) f r
 unfolding twoDigits
-wrote-two d e f at m n a b r p q u v = rw (← p, ← q) (wrote-then d (a ∷ []) e (b ∷ []) f at m r u v)
+wrote-two d e f at m n t a b r o p q u v =
+    let x : a ≡ 48 + n / 10 = omega arith in
+    let y : b ≡ 48 + n % 10 = omega arith in
+    rw (← x, ← y) (wrote-then d (a ∷ []) e (b ∷ []) f at m r u v)
 
 pub wrote-four : (d e f : List ℕ) (at m n r : ℕ) → Wrote d at (twoDigits (n / 100)) e m → Wrote e m (twoDigits (n % 100)) f r → Wrote d at (fourDigits n) f r
 unfolding fourDigits

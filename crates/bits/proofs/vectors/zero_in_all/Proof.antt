@@ -1,4 +1,4 @@
--- `bits::vectors::zero_in_all` meets its contract. The invariant: `all` is the OR of the words from `from` to j of all vectors. The measure is what is left of the 32 words.
+-- `bits::vectors::zero_in_all` meets its contract. The invariant: `all` is the OR of the words from `from` on of the first i vectors. The measure is what is left of the vectors.
 -- Assumes nothing.
 use mathlib.Core.Path.{_≡_, ap, _∙_}
 use Prim.Native.Nat.{ℕ, _-_, _≤_}
@@ -6,25 +6,25 @@ use native.Mathlib.Omega.{arith}
 use borrow.Author.Needs.{needs}
 use lib.Bits.{bitOr}
 use lib.Dec.{eqb}
-use Rattle.bits.specs.OrWords.{orFrom, from-none, from-more, from-all}
-use Rattle.bits.specs.Vectors.{wordOfAll, zerosOfAll}
+use Rattle.bits.specs.OrWords.{orBelow, or-zero, or-more, or-all}
+use Rattle.bits.specs.Vectors.{restOf, zerosOfAll}
 use Rattle.bits.proofs.vectors.zero_in_all.Statement.{statement}
 use Rattle.bits.proofs.vectors.zero_in_all.Tie as tie
 
 abbrev Inv-loop : tie.InvT-loop
-Inv-loop words n from all₀ j₀ all j = (from ≤ j) × (j ≤ 32) × (all ≡ orFrom (wordOfAll words n) from j)
+Inv-loop words n from all₀ i₀ all i = (i ≤ n) × (all ≡ orBelow (restOf words from) i)
 
 abbrev μ-loop : tie.MeasureT-loop
-μ-loop words n from all₀ j₀ all j = 32 - j
+μ-loop words n from all₀ i₀ all i = n - i
 
 loop-holds : tie.Need-loop-holds Inv-loop μ-loop
-loop-holds c = (search needs, search needs, search from-none)
+loop-holds c = (search needs, search or-zero)
 
-word-of-all-requires : tie.Need-word-of-all-requires Inv-loop μ-loop
-word-of-all-requires c κs = search needs
+rest-of-requires : tie.Need-rest-of-requires Inv-loop μ-loop
+rest-of-requires c κs = search needs
 
-add-j : tie.Need-add-j Inv-loop μ-loop
-add-j c = search needs
+add-i : tie.Need-add-i Inv-loop μ-loop
+add-i c = search needs
 
 loop-less : tie.Need-loop-less Inv-loop μ-loop
 loop-less c = search needs
@@ -33,18 +33,15 @@ loop-again : tie.Need-loop-again Inv-loop μ-loop
 loop-again c =
     let s = c .before .before .before .before .args in
     let l = c .before .before .loop in
-    let m = from-more (wordOfAll (s .words .now) (s .n)) (s .from) (l .j) (l .all) (l .inv .0) (l .inv .2) in
-    (search needs, search needs, ap (bitOr (l .all)) (c .word-of-all .ensures) ∙ m)
+    (search needs, ap (bitOr (l .all)) (c .rest-of .ensures) ∙ or-more (restOf (s .words .now) (s .from)) (l .i) (l .all) (l .inv .1))
 
 returns : tie.Need-returns Inv-loop μ-loop
 unfolding zerosOfAll
 returns c =
     let s = c .before .before .before .args in
     let l = c .before .loop in
-    let e : l .j ≡ 32 = omega arith in
-    ap (λ (x : ℕ). eqb x 0) (l .inv .2 ∙ ap (orFrom (wordOfAll (s .words .now) (s .n)) (s .from)) e) ∙ from-all (wordOfAll (s .words .now) (s .n)) (s .from) 32
+    let e : l .i ≡ s .n = omega arith in
+    ap (λ (x : ℕ). eqb x 0) (l .inv .1 ∙ ap (orBelow (restOf (s .words .now) (s .from))) e) ∙ or-all (restOf (s .words .now) (s .from)) (s .n)
 
 pub zero-in-all-spec : {M : Type 1} → statement M
-zero-in-all-spec =
-    tie.close
-    (tie.spec Inv-loop μ-loop loop-holds word-of-all-requires add-j loop-less loop-again returns)
+zero-in-all-spec = tie.close (tie.spec Inv-loop μ-loop loop-holds rest-of-requires add-i loop-less loop-again returns)

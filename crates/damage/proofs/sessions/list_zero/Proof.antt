@@ -1,33 +1,31 @@
--- `list_zero` meets its contract: a fold; the whole is what was found so far and the rest.
+-- `list_zero` meets its contract: a fold that gathers the rows in one number and the targets in another.
 -- Assumes nothing.
 use mathlib.Core.Path.{_≡_}
-use mathlib.Core.Bool.{_&&_}
-use Prim.Native.Nat.{_-_}
+use Prim.Native.Nat.{_-_, _≤_}
 use native.Mathlib.Omega.{arith}
-use Rattle.bits.specs.All.{allBelow}
-use Rattle.tables.specs.Damage.{allIn}
-use Rattle.damage.specs.Parts.{zeroAt}
-use Rattle.damage.proofs.Fold.{below-in, fold-again, fold-end}
+use lib.ListN.{getD}
+use Rattle.bits.specs.OrWords.{orBelow, or-zero, or-more}
+use Rattle.damage.proofs.EntryLaws.{zero-gathered}
 use Rattle.damage.proofs.sessions.list_zero.Statement.{statement}
 use Rattle.damage.proofs.sessions.list_zero.Tie as tie
 
 abbrev Inv-loop : tie.InvT-loop
-Inv-loop at to ok₀ i₀ ok i = allBelow (zeroAt at to) 32 ≡ ok && allIn (zeroAt at to) i 32
+Inv-loop at to rows₀ targets₀ i₀ rows targets i = (i ≤ 32) × (rows ≡ orBelow (λ j. getD at j 0) i) × (targets ≡ orBelow (λ j. getD to j 0) i)
 
 abbrev μ-loop : tie.MeasureT-loop
-μ-loop at to ok₀ i₀ ok i = 32 - i
+μ-loop at to rows₀ targets₀ i₀ rows targets i = 32 - i
 
 loop-holds : tie.Need-loop-holds Inv-loop μ-loop
-loop-holds c = search below-in
+loop-holds c = (omega arith, search or-zero, search or-zero)
 
-mul-ok : tie.Need-mul-ok Inv-loop μ-loop
-mul-ok c = omega arith
+mul-rows : tie.Need-mul-rows Inv-loop μ-loop
+mul-rows c = omega arith
 
-element-copy-out-ok : tie.Need-element-copy-out-ok Inv-loop μ-loop
-element-copy-out-ok c = omega arith
+element-copy-out-rows : tie.Need-element-copy-out-rows Inv-loop μ-loop
+element-copy-out-rows c = omega arith
 
-element-copy-out-ok-2 : tie.Need-element-copy-out-ok-2 Inv-loop μ-loop
-element-copy-out-ok-2 c = omega arith
+element-copy-out-targets : tie.Need-element-copy-out-targets Inv-loop μ-loop
+element-copy-out-targets c = omega arith
 
 add-i : tie.Need-add-i Inv-loop μ-loop
 add-i c = omega arith
@@ -36,11 +34,10 @@ loop-less : tie.Need-loop-less Inv-loop μ-loop
 loop-less c = omega arith
 
 loop-again : tie.Need-loop-again Inv-loop μ-loop
-unfolding zeroAt
-loop-again c = search fold-again
+loop-again c = (omega arith, search or-more, search or-more)
 
 returns : tie.Need-returns Inv-loop μ-loop
-returns c = search fold-end
+returns c = search zero-gathered
 
 pub list-zero-spec : {M : Type 1} → statement M
 list-zero-spec =
@@ -49,9 +46,9 @@ list-zero-spec =
     Inv-loop
     μ-loop
     loop-holds
-    mul-ok
-    element-copy-out-ok
-    element-copy-out-ok-2
+    mul-rows
+    element-copy-out-rows
+    element-copy-out-targets
     add-i
     loop-less
     loop-again

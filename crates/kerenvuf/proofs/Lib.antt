@@ -1,0 +1,8 @@
+-- The laws and the walks of the exports.
+-- Assumes nothing.
+pub mod AnswerLaws
+pub mod HeardLaws
+pub mod PickedLaws
+pub mod KvNumbers
+pub mod Exported
+pub mod ExportedScratch
