@@ -1,8 +1,10 @@
-"""The examples: what they print is as written beside them, on the second program or on the program that STEPS names."""
+"""The examples: what they print is as written beside them, on the second program or on the program that STEPS names; the one in C
+over the archive that ARCHIVE names."""
 
 import os
 import subprocess
 import sys
+import tempfile
 import unittest
 
 ROOT = os.path.dirname(os.path.dirname(os.path.abspath(__file__)))
@@ -32,6 +34,15 @@ class Examples(unittest.TestCase):
     def test_evening(self):
         """The worked example of the README."""
         self.assertEqual(printed([os.path.join(EXAMPLES, "evening"), " ".join(PROGRAM or SECOND)]), wanted("evening.out"))
+
+    @unittest.skipUnless("ARCHIVE" in os.environ, "ARCHIVE names no archive")
+    def test_marking_in_c(self):
+        """The same evening over the archive."""
+        with tempfile.TemporaryDirectory() as folder:
+            program = os.path.join(folder, "marking")
+            subprocess.run(["cc", "-std=c11", "-Wall", "-Wextra", "-Werror", "-O2", "-I", os.path.join(ROOT, "include"),
+                            os.path.join(EXAMPLES, "marking.c"), os.environ["ARCHIVE"], "-o", program], check=True)
+            self.assertEqual(printed([program]), wanted("marking.out"))
 
 
 if __name__ == "__main__":
