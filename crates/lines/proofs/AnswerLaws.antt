@@ -19,8 +19,8 @@ use Rattle.history.specs.declared.read.Standing.the-variants.{Holds, Absent}
 use Rattle.history.specs.Read.{standingOf}
 use Rattle.text.specs.Show.{show}
 use Rattle.text.specs.Split.{newline}
-use Rattle.text.specs.Wrote.{Wrote, Answered}
-use Rattle.text.proofs.WroteLaws.{answer-line}
+use Rattle.writing.specs.Wrote.{Wrote, Answered}
+use Rattle.writing.proofs.WroteLaws.{answer-line}
 use Rattle.calls.specs.declared.answers.Place.{Place}
 use Rattle.calls.specs.declared.answers.Answer as core
 use Rattle.calls.specs.declared.answers.Answer.the-variants.{No, Count, At, Read, Listed}

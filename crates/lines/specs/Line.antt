@@ -11,7 +11,7 @@ use Rattle.text.specs.Split.{newline}
 use Rattle.text.specs.Parse.{parse}
 use Rattle.text.specs.Asked.{lineBytes}
 use Rattle.text.specs.Show.{show}
-use Rattle.text.specs.Wrote.{Wrote}
+use Rattle.writing.specs.Wrote.{Wrote}
 use Rattle.rules.specs.Calls.{Answer}
 use Rattle.lines.specs.Turn.{Turn, turnOf}
 

@@ -4,7 +4,7 @@ use history::Standing;
 ghost use Prim.Native.Nat.{_≤_};
 ghost use lib.ListN.{length};
 ghost use Rattle.rules.specs.Calls.{value};
-ghost use Rattle.text.specs.Wrote.{Answered};
+ghost use Rattle.writing.specs.Wrote.{Answered};
 ghost use Rattle.history.specs.Read.{standingOf};
 ghost use Rattle.calls.specs.Said.{said};
 ghost use Rattle.lines.specs.Line.{PutLine};
@@ -16,8 +16,8 @@ fn put_standing(out: &mut [u8], found: Standing) -> usize
     ensures { λ r. ⌜ Answered (now (out .entry)) (value (standingOf found)) (now (out .exit)) r 13 ⌝ }
 {
     match found {
-        Standing::Holds(v) => text::put_ok_one(out, v.0),
-        Standing::Absent => text::put_absent(out),
+        Standing::Holds(v) => writing::put_ok_one(out, v.0),
+        Standing::Absent => writing::put_absent(out),
     }
 }
 
@@ -27,13 +27,13 @@ fn put_answer<'a>(out: &mut [u8], answer: Answer, words: &'a [u64], scratch: &'a
     ensures { λ r. ⌜ Answered (now (out .entry)) (heardFrom (now (words .entry)) (now (scratch .entry)) (said answer)) (now (out .exit)) r 10275 ⌝ }
 {
     match answer {
-        Answer::No(why) => text::put_no(out, tables::number(why)),
-        Answer::Count(n) => text::put_ok_one(out, n),
-        Answer::At(s, n) => text::put_ok_two(out, s.0, n),
+        Answer::No(why) => writing::put_no(out, tables::number(why)),
+        Answer::Count(n) => writing::put_ok_one(out, n),
+        Answer::At(s, n) => writing::put_ok_two(out, s.0, n),
         Answer::Read(found) => put_standing(out, found),
         Answer::Listed(flips, due, place) => {
             let vector = reading::picked(words, scratch, place);
-            text::put_queried(out, flips, due, vector)
+            writing::put_queried(out, flips, due, vector)
         }
     }
 }
@@ -44,5 +44,5 @@ pub fn put_line<'a>(out: &mut [u8], answer: Answer, words: &'a [u64], scratch: &
     ensures { λ r. ⌜ PutLine (now (out .entry)) (heardFrom (now (words .entry)) (now (scratch .entry)) (said answer)) (now (out .exit)) r ⌝ }
 {
     let n = put_answer(out, answer, words, scratch);
-    text::put_end(out, n)
+    writing::put_end(out, n)
 }

@@ -6,11 +6,7 @@ pub mod CellLaws
 pub mod ColumnLaws
 pub mod RequestLaws
 pub mod ReadLaws
-pub mod ShowLaws
-pub mod WroteLaws
-pub mod RowLaws
 pub mod FeedLaws
 pub mod Chunks
-pub mod Round
 pub mod Examples
 pub mod AskedLaws

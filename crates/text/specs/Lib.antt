@@ -8,5 +8,4 @@ pub mod Places
 pub mod Words
 pub mod Cells
 pub mod Asked
-pub mod Wrote
 pub mod Feed

@@ -1,0 +1,6 @@
+-- The laws of what is written that belong to no one function.
+-- Assumes nothing.
+pub mod ShowLaws
+pub mod WroteLaws
+pub mod RowLaws
+pub mod Round

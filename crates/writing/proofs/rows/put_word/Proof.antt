@@ -1,0 +1,53 @@
+-- `text::rows::put_word` meets its contract: what is written of the rows, and what is still to come, is the whole. Assumes nothing.
+use mathlib.Core.Path.{refl}
+use native.Mathlib.Omega.{arith}
+use lib.ListN.{length}
+use Rattle.writing.specs.Wrote.{wordRows}
+use Rattle.writing.proofs.RowLaws.{Rowing, rowing-none, rowing-step, rowing-end, row-lt, row-room, row-less}
+use Rattle.writing.proofs.rows.put_word.Statement.{statement}
+use Rattle.writing.proofs.rows.put_word.Tie as tie
+
+abbrev Inv-loop : tie.InvT-loop
+Inv-loop out₀ start word base at₀ x₀ out at x = Rowing out₀ out start at word base x
+
+abbrev μ-loop : tie.MeasureT-loop
+μ-loop out₀ start word base at₀ x₀ out at x = length (wordRows x base)
+
+loop-holds : tie.Need-loop-holds Inv-loop μ-loop
+loop-holds c = rowing-none _ _ _ _ (c .before .fits .word .fits)
+
+add-put-row : tie.Need-add-put-row Inv-loop μ-loop
+add-put-row c = omega (arith, row-lt _ _ _ _ _ _ _ (c .before .before .loop .inv) (c .before .loop-test .taken))
+
+put-row-requires : tie.Need-put-row-requires Inv-loop μ-loop
+put-row-requires c κs = let g = c .before .before .loop .inv in (omega (arith, row-lt _ _ _ _ _ _ _ g (c .before .loop-test .taken)), omega (arith, g .room, row-room _ _ _ _ _ _ _ g (c .before .loop-test .taken)))
+
+sub-x : tie.Need-sub-x Inv-loop μ-loop
+sub-x c = omega arith
+
+loop-less : tie.Need-loop-less Inv-loop μ-loop
+loop-less c = row-less _ _ _ _ _ _ _ (c .before .before .before .before .before .loop .inv) (c .before .before .before .before .loop-test .taken)
+
+loop-again : tie.Need-loop-again Inv-loop μ-loop
+loop-again c = rowing-step _ _ _ _ _ _ _ (c .before .before .before .before .before .loop .inv) (c .before .before .before .before .loop-test .taken) _ _ _ (c .before .before .before .before .before .before .before .pre .0) refl (c .before .before .put-row .ensures)
+
+same-length : tie.Need-same-length Inv-loop μ-loop
+same-length c = c .before .loop .inv .room
+
+returns : tie.Need-returns Inv-loop μ-loop
+returns c = rowing-end _ _ _ _ _ _ _ (c .before .loop .inv) (c .loop-test .left)
+
+pub put-word-spec : {M : Type 1} → statement M
+put-word-spec =
+    tie.close
+    (tie.spec
+    Inv-loop
+    μ-loop
+    loop-holds
+    add-put-row
+    put-row-requires
+    sub-x
+    loop-less
+    loop-again
+    same-length
+    returns)
