@@ -7,7 +7,6 @@ use Prim.Native.Nat.{ℕ, zero, suc, _+_, _<_}
 use native.Mathlib.Omega.{arith}
 use native.Mathlib.Numerals.{add-one}
 use native.Mathlib.Nat.{not-suc-le-zero, eq-or-lt-of-le, le-of-suc-le-suc, lt-suc-self}
-use Rattle.bits.specs.Cases.{same-truth}
 
 -- p holds of each number below n
 unfoldable pub allBelow : (ℕ → Bool) → ℕ → Bool
@@ -61,10 +60,3 @@ all-and p q (suc n) = ap (λ (t : Bool). t && (p n && q n)) (all-and p q n) ∙ 
     mix true false true y = refl
     mix true false false y = refl
     mix false b x y = refl
-
--- a test of two numbers, in either order
-pub all-swap : (p : ℕ → ℕ → Bool) (m n : ℕ) → allBelow (λ i. allBelow (p i) n) m ≡ allBelow (λ j. allBelow (λ i. p i j) m) n
-all-swap p m n =
-    same-truth (allBelow (λ i. allBelow (p i) n) m) (allBelow (λ j. allBelow (λ i. p i j) m) n)
-    (λ e. all-of (λ j. allBelow (λ i. p i j) m) n (λ j l. all-of (λ i. p i j) m (λ i k. all-at (p i) n (all-at (λ i. allBelow (p i) n) m e i k) j l)))
-    (λ e. all-of (λ i. allBelow (p i) n) m (λ i k. all-of (p i) n (λ j l. all-at (λ i. p i j) m (all-at (λ j. allBelow (λ i. p i j) m) n e j l) i k)))

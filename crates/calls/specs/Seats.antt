@@ -47,9 +47,9 @@ abbrev pub Serves : (List Session → Tables) → (List Session → Tables) → 
 Serves before after call x n d = (ts : List Session) → x ≡ seatOf (before ts) n → outcome (resat (after ts) d) (said (d .answer)) ≡ call (before ts)
 
 -- the same of query, which writes the scratch
-abbrev pub Asks : (List Session → Tables) → List ℕ → List ℕ → (Tables → List ℕ → QueryOutcome) → Seat → ℕ → Done → Type 0
-Asks before scratch scratch′ call x n d =
-    (ts : List Session) → x ≡ seatOf (before ts) n → queryOutcome (resat (before ts) d) scratch′ (said (d .answer)) ≡ call (before ts) scratch
+abbrev pub Asks : (List Session → Tables) → (List Session → Tables) → List ℕ → List ℕ → (Tables → List ℕ → QueryOutcome) → Seat → ℕ → Done → Type 0
+Asks before after scratch scratch′ call x n d =
+    (ts : List Session) → x ≡ seatOf (before ts) n → queryOutcome (resat (after ts) d) scratch′ (said (d .answer)) ≡ call (before ts) scratch
 
 -- whether an answer is no refusal
 abbrev pub accepted : Answer → Bool

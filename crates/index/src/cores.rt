@@ -5,10 +5,9 @@ use lent::Seat;
 ghost use mathlib.Core.Path.{_≡_};
 ghost use Rattle.tables.specs.Cells.{tables};
 ghost use Rattle.calls.specs.Seats as calls;
-ghost use Rattle.calls.specs.Seats.{Serves};
+ghost use Rattle.calls.specs.Seats.{Serves, Asks};
 ghost use Rattle.calls.specs.Calls.{beginOf, readOf, updateOf, deleteOf, insertOf, commitOf, abortOf};
 ghost use Rattle.calls.specs.Query.{queryOf};
-ghost use Rattle.index.specs.Asks.{AsksAll};
 
 // Whether an answer is no refusal.
 pub fn accepted(answer: Answer) -> bool
@@ -53,7 +52,7 @@ pub fn query_at(
     v: u64,
     threshold: u64,
 ) -> Done
-    ensures { λ r. ⌜ AsksAll (tables (now (clock .entry)) (now (slots .entry)) (now (words .entry)) (now (heads .entry)) (now (log .entry)) (now (changes .entry))) (tables (now (clock .exit)) (now (slots .exit)) (now (words .exit)) (now (heads .exit)) (now (log .exit)) (now (changes .exit))) (now (scratch .entry)) (now (scratch .exit)) (λ t ws. queryOf t ws n v threshold) seat n r ⌝ }
+    ensures { λ r. ⌜ Asks (tables (now (clock .entry)) (now (slots .entry)) (now (words .entry)) (now (heads .entry)) (now (log .entry)) (now (changes .entry))) (tables (now (clock .exit)) (now (slots .exit)) (now (words .exit)) (now (heads .exit)) (now (log .exit)) (now (changes .exit))) (now (scratch .entry)) (now (scratch .exit)) (λ t ws. queryOf t ws n v threshold) seat n r ⌝ }
 {
     reading::query_in(
         clock,

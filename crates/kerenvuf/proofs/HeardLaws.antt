@@ -2,7 +2,7 @@
 -- Assumes nothing.
 use mathlib.Core.Path.{_≡_, refl, _∙_, ap}
 use mathlib.Core.Bool.{Bool, true, false, cond}
-use mathlib.Core.Option.{Option, none, some, Option·some-ne-none}
+use mathlib.Core.Option.{Option, none, some}
 use mathlib.Core.List.{List, [], _∷_}
 use Prim.Native.Nat.{ℕ, _+_, _-_, _<_}
 use native.Mathlib.Omega.{arith}
@@ -10,17 +10,16 @@ use borrow.Author.Tests.{lt-ltb, ne-eqb, leb-false}
 use lib.Dec.{eqb, ltb}
 use lib.ListN.{length}
 use Rattle.rules.specs.State.{session, startOf}
-use Rattle.rules.specs.Calls.{Call, create, begin, query, read, update, delete, insert, commit, tidy, abort}
-use Rattle.rules.specs.Refusals.{firstOf, tests}
+use Rattle.rules.specs.Calls.{create, begin, query, read, update, delete, insert, commit, tidy, abort}
+use Rattle.rules.specs.Refusals.{tests}
 use Rattle.rules.proofs.Tests.{all-fail}
 use Rattle.tables.specs.Cells.{Tables, valuesIn}
-use Rattle.tables.specs.Damage.{sound}
-use Rattle.tables.specs.Room.{roomy}
 use Rattle.tables.specs.Meaning.{meaning}
 use Rattle.tables.proofs.Facts.{parts, clock-limits}
 use Rattle.tables.proofs.Means.{values-means}
 use Rattle.history.specs.Version.{slotSeen}
 use Rattle.history.proofs.Meets.{seen-used}
+use Rattle.reading.proofs.QueryRows.{accepted}
 use Rattle.calls.specs.Said.{no, numbers, value, words}
 use Rattle.calls.specs.Outcome.{Outcome, unless, refusalAt, refusalOfCreate}
 use Rattle.calls.specs.Calls.{own, beginning, columnOf, createOf, beginOf, readOf, updateOf, deleteOf, insertOf, commitOf, tidyOf, abortOf}
@@ -110,22 +109,13 @@ unfolding abortOf
 abort-kept t n = unless-kept (refusalAt t (abort n)) t _ (count-kept _)
 
 -- ---- query: the slot that an accepted query names is one of the 96
-accepted : (t : Tables) (c : Call) → refusalAt t c ≡ none → (sound t ≡ true) × (firstOf (tests (meaning t) c) ≡ none)
-unfolding refusalAt
-accepted t c e = go (roomy t) (sound t) e
-  where
-    go : (a b : Bool) → cond a (cond b (firstOf (tests (meaning t) c)) (some 2)) (some 1) ≡ none → (b ≡ true) × (firstOf (tests (meaning t) c) ≡ none)
-    go true true z = (refl, z)
-    go true false z = absurd (Option·some-ne-none 2 z)
-    go false b z = absurd (Option·some-ne-none 1 z)
-
 slot-low : (t : Tables) (n v threshold length s : ℕ) → refusalAt t (query n v threshold length) ≡ none → slotSeen (t .slots) (t .heads) s v < 96
 unfolding tests
 slot-low t n v threshold length s e =
     let yes = accepted t (query n v threshold length) e in
-    let l = leb-false (meaning t .values) v (all-fail (tests (meaning t) (query n v threshold length)) (yes .1) .1 .1 .0) in
+    let l = leb-false (meaning t .values) v (all-fail (tests (meaning t) (query n v threshold length)) (yes .2) .1 .1 .0) in
     let below : v < valuesIn (t .clock) = omega (arith, l, values-means t) in
-    omega (arith, seen-used t (yes .0) s v below, clock-limits (t .clock) (parts t (yes .0) .clock-fits) .few-slots)
+    omega (arith, seen-used t (yes .1) s v below, clock-limits (t .clock) (parts t (yes .1) .clock-fits) .few-slots)
 
 asked-kept : (b : Bool) (o p : QueryOutcome) → Kept (o .answer) → Kept (p .answer) → Kept (cond b o p .answer)
 asked-kept true o p h k = h

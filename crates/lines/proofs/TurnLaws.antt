@@ -217,7 +217,7 @@ module _ (clock slots words heads log changes scratch column : List ℕ) (x : Se
   none-turns p w ts q = ap (λ (y : Done). turned lent′ scratch y ts) w ∙ sym (ap (turnOf (lent′ ts) scratch) (asked-by wish column word.Unknown p))
 
   -- a query writes the scratch
-  pub query-turns : (scratch′ : List ℕ) → wish .word ≡ word.Query → Asks lent′ scratch scratch′ (λ t ws. queryOf t ws (wish .a) (wish .b) 8) x (wish .a) d → e ≡ within d
+  pub query-turns : (scratch′ : List ℕ) → wish .word ≡ word.Query → Asks lent′ lent′ scratch scratch′ (λ t ws. queryOf t ws (wish .a) (wish .b) 8) x (wish .a) d → e ≡ within d
       → Turns lent′ lent′ scratch scratch′ x (wish .a) (asked wish column) e
   unfolding askedBy turnOf made askWith scratchAfter heardFrom within usualThreshold
   query-turns scratch′ p s w ts q =

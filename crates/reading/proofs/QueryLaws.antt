@@ -64,7 +64,7 @@ module _ (clock slots words heads log changes scratch : List ℕ) (x : Seat) (n 
 
   -- what a query leaves, that scratch being at its end
   abbrev Answers : List ℕ → Done → Type 0
-  Answers after d = Asks lent scratch after (λ t ws. queryOf t ws n v threshold) x n d
+  Answers after d = Asks lent lent scratch after (λ t ws. queryOf t ws n v threshold) x n d
 
   pub query-refused : (why : Refusal) (d : Done) → test ≡ No why → d ≡ refusing why → Answers scratch d
   unfolding queryOf tests

@@ -38,7 +38,7 @@ use Rattle.calls.specs.Outcome.{refusalAt}
 use Rattle.calls.specs.Query.{QueryOutcome, queryOutcome, flipsSeen, rowsSeen, asked, unlessAsked, queryOf, pickedFrom}
 
 -- what an accepted call says of the tables
-accepted : (t : Tables) (c : Call) → refusalAt t c ≡ none → (roomy t ≡ true) × (sound t ≡ true) × (firstOf (tests (meaning t) c) ≡ none)
+pub accepted : (t : Tables) (c : Call) → refusalAt t c ≡ none → (roomy t ≡ true) × (sound t ≡ true) × (firstOf (tests (meaning t) c) ≡ none)
 unfolding refusalAt
 accepted t c e = go (roomy t) (sound t) e
   where

@@ -28,7 +28,7 @@ pub fn query_in(
     v: u64,
     threshold: u64,
 ) -> Done
-    ensures { λ r. ⌜ Asks (tables (now (clock .entry)) (now (slots .entry)) (now (words .entry)) (now (heads .entry)) (now (log .entry)) (now (changes .entry))) (now (scratch .entry)) (now (scratch .exit)) (λ t ws. queryOf t ws n v threshold) seat n r ⌝ }
+    ensures { λ r. ⌜ Asks (tables (now (clock .entry)) (now (slots .entry)) (now (words .entry)) (now (heads .entry)) (now (log .entry)) (now (changes .entry))) (tables (now (clock .entry)) (now (slots .entry)) (now (words .entry)) (now (heads .entry)) (now (log .entry)) (now (changes .entry))) (now (scratch .entry)) (now (scratch .exit)) (λ t ws. queryOf t ws n v threshold) seat n r ⌝ }
 {
     let s = seat.session;
     let start = s.start;

@@ -12,7 +12,7 @@ use Rattle.lent.proofs.put.Symbol.{name as #lent·put}
 use Rattle.lent.proofs.put.Met as put-thm
 use Rattle.calls.specs.Said.{said}
 use Rattle.calls.specs.Query.{queryOutcome, queryOf}
-use Rattle.index.specs.Asks.{AsksAll}
+use Rattle.calls.specs.Seats.{Asks}
 use Rattle.index.proofs.Scratch.{Says, CSays, Gives, Core, through}
 use Rattle.index.proofs.cores.query_at.Symbol as core-def
 use Rattle.index.proofs.cores.query_at.Symbol.{name as #index·query-at}
@@ -25,7 +25,7 @@ abbrev Ens : Says 2
 Ens ys0 ys1 ys2 ys3 ys4 ys5 ts ys7 n ns r zs0 zs1 zs2 zs3 zs4 zs5 us zs7 = queryOutcome (tables zs0 zs1 zs2 zs3 zs4 zs5 us) zs7 (said r) ≡ queryOf (tables ys0 ys1 ys2 ys3 ys4 ys5 ts) ys7 n (ns .0) (ns .1 .0)
 
 abbrev CEns : CSays 2
-CEns ys0 ys1 ys2 ys3 ys4 ys5 ys7 s n ns d zs0 zs1 zs2 zs3 zs4 zs5 zs7 = AsksAll (tables ys0 ys1 ys2 ys3 ys4 ys5) (tables zs0 zs1 zs2 zs3 zs4 zs5) ys7 zs7 (λ t ws. queryOf t ws n (ns .0) (ns .1 .0)) s n d
+CEns ys0 ys1 ys2 ys3 ys4 ys5 ys7 s n ns d zs0 zs1 zs2 zs3 zs4 zs5 zs7 = Asks (tables ys0 ys1 ys2 ys3 ys4 ys5) (tables zs0 zs1 zs2 zs3 zs4 zs5) ys7 zs7 (λ t ws. queryOf t ws n (ns .0) (ns .1 .0)) s n d
 
 gives : Gives 2 CEns Ens
 gives ys0 ys1 ys2 ys3 ys4 ys5 ts ys7 n ns d zs0 zs1 zs2 zs3 zs4 zs5 zs7 h = h ts refl
