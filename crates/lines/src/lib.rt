@@ -9,3 +9,4 @@ pub use held::Sessions;
 pub use held::all_free;
 pub use held::settled;
 pub use reply::line;
+pub use reply::nothing;

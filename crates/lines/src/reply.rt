@@ -33,7 +33,7 @@ fn wish_of(bytes: &[u8], column: &mut [u8]) -> Request
 }
 
 // Nothing is done.
-fn nothing() -> Lined
+pub fn nothing() -> Lined
     ensures { λ r. ⌜ (r .len ≡ 0) × (r .place ≡ 16) ⌝ }
 {
     Lined {
