@@ -1,4 +1,4 @@
--- `index::create::column_refused` meets its contract.
+-- `create::column_refused` meets its contract.
 -- Assumes nothing.
 use Rattle.creating.proofs.CreateLaws.{bad-none, bad-many, bad-long, bad-bytes}
 use borrow.Author.Needs.{needs}

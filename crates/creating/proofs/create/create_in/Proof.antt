@@ -1,4 +1,4 @@
--- `index::create::create_in` meets its contract.
+-- `create::create_in` meets its contract.
 -- Assumes nothing.
 use Rattle.creating.proofs.CreateLaws.{create-no-room, create-refused, creatable, values-fit, create-done}
 use borrow.Author.Needs.{needs}

@@ -1,4 +1,4 @@
--- `index::create::create_work` meets its contract.
+-- `create::create_work` meets its contract.
 -- Assumes nothing.
 use Rattle.creating.proofs.CreateLaws.{front-length, front-needs, create-made}
 use borrow.Author.Needs.{needs}

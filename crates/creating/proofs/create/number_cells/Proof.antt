@@ -1,4 +1,4 @@
--- `index::create::number_cells` meets its contract. The invariant: the cells before v are their own numbers. The measure is what is left of the c.
+-- `create::number_cells` meets its contract. The invariant: the cells before v are their own numbers. The measure is what is left of the c.
 -- Assumes nothing.
 use borrow.Author.Needs.{needs}
 use Rattle.creating.proofs.CreateLaws.{filled-to, number-more}

@@ -1,4 +1,4 @@
--- `index::create::numbered` meets its contract.
+-- `create::numbered` meets its contract.
 -- Assumes nothing.
 use Rattle.creating.proofs.CreateLaws.{number-zeros}
 use borrow.Author.Needs.{needs}

@@ -1,4 +1,4 @@
--- `index::create::write_columns` meets its contract.
+-- `create::write_columns` meets its contract.
 -- Assumes nothing.
 use Rattle.creating.proofs.CreateLaws.{columns-written}
 use borrow.Author.Needs.{needs}

@@ -1,4 +1,4 @@
--- `index::create::zero_cells` meets its contract. The invariant: the cells before i are 0. The measure is what is left of the n.
+-- `create::zero_cells` meets its contract. The invariant: the cells before i are 0. The measure is what is left of the n.
 -- Assumes nothing.
 use Rattle.creating.proofs.CreateLaws.{zero-more, zeros-to}
 use borrow.Author.Needs.{needs}

@@ -1,4 +1,4 @@
--- `index::abort` meets its contract: it is an instance of `Through.antt`, at `abort_at`.
+-- `abort` meets its contract: it is an instance of `Through.antt`, at `abort_at`.
 -- Assumes nothing.
 use mathlib.Core.Path.{_≡_, refl}
 use denote.Triple.Table.{cited}

@@ -1,4 +1,4 @@
--- `index::begin` meets its contract: it is an instance of `Through.antt`, at `begin_at`.
+-- `begin` meets its contract: it is an instance of `Through.antt`, at `begin_at`.
 -- Assumes nothing.
 use mathlib.Core.Path.{_≡_, refl}
 use denote.Triple.Table.{cited}

@@ -1,4 +1,4 @@
--- `index::commit` meets its contract: it is an instance of `Through.antt`, at `commit_at`.
+-- `commit` meets its contract: it is an instance of `Through.antt`, at `commit_at`.
 -- Assumes nothing.
 use mathlib.Core.Path.{_≡_, refl}
 use denote.Triple.Table.{cited}

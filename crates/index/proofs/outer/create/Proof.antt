@@ -1,4 +1,4 @@
--- `index::create` meets its contract: a walk of its MIR. `places` counts the places of the session table, `create_in` does the work on the slices of numbers, `accepted` says whether its answer is no refusal, and `free_all` then frees every session.
+-- `create` meets its contract: a walk of its MIR. `places` counts the places of the session table, `create_in` does the work on the slices of numbers, `accepted` says whether its answer is no refusal, and `free_all` then frees every session.
 -- All that the proof knows of what it calls is that it meets its contract. Assumes nothing.
 use Rattle.lent.proofs.Kit.{_≡_, refl, _∙_, ap, ℕ, _<_, _^_, cond, List, [], _∷_, length, URA, fullShare, named, w64, Val, vbool, vint, SProp, ent, emp, id⊢, via, fst∗, GName, Lft, Share, ftrue, flft, Memory, Routine, Heap, Calls, Loops, WpFn, Atoms, Fun, givenOf, tablesOf, Given, ‵, _⊛_, ⋆, _$_, _∵_, !, qed, by, move, keep, drop, group, split, join, fsplit, fjoin, feqL, suffices, frame, done, whole, sub, look-in, look, init, forget, stop, fld, from, load, of-opd, and-then, no-more, assigns, returns, enter, alloc1, alloc0, params1, pass1, pass0, free1, free0, FmC, fmOf, owns, Is, u8, u32, u64, RefT, plain, sliceVal, MutSlice, ShrSlice, Room, finally, heard, nothing, onEntry, tripleOf, Contract, Triple, cited, says, walkOf, ends-at}
 use Rattle.lent.proofs.Data.{number, flag, nil}

@@ -1,4 +1,4 @@
--- `index::delete` meets its contract: it is an instance of `Through.antt`, at `delete_at`.
+-- `delete` meets its contract: it is an instance of `Through.antt`, at `delete_at`.
 -- Assumes nothing.
 use mathlib.Core.Path.{_≡_, refl}
 use denote.Triple.Table.{cited}

@@ -1,4 +1,4 @@
--- `index::insert` meets its contract: it is an instance of `Through.antt`, at `insert_at`.
+-- `insert` meets its contract: it is an instance of `Through.antt`, at `insert_at`.
 -- Assumes nothing.
 use mathlib.Core.Path.{_≡_, refl}
 use denote.Triple.Table.{cited}

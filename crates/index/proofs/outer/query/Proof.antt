@@ -1,4 +1,4 @@
--- `index::query` meets its contract: it is an instance of `Scratch.antt`, at `query_at`.
+-- `query` meets its contract: it is an instance of `Scratch.antt`, at `query_at`.
 -- Assumes nothing.
 use mathlib.Core.Path.{_≡_, refl}
 use denote.Triple.Table.{cited}

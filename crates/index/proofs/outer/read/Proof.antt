@@ -1,4 +1,4 @@
--- `index::read` meets its contract: it is an instance of `Through.antt`, at `read_at`.
+-- `read` meets its contract: it is an instance of `Through.antt`, at `read_at`.
 -- Assumes nothing.
 use mathlib.Core.Path.{_≡_, refl}
 use denote.Triple.Table.{cited}

@@ -1,4 +1,4 @@
--- `index::tidy` meets its contract: it is an instance of `Through.antt`, at `tidying::tidy_in`.
+-- `tidy` meets its contract: it is an instance of `Through.antt`, at `tidying::tidy_in`.
 -- Assumes nothing.
 use mathlib.Core.Path.{_≡_, refl}
 use denote.Triple.Table.{cited}

@@ -1,4 +1,4 @@
--- `index::update` meets its contract: it is an instance of `Through.antt`, at `update_at`.
+-- `update` meets its contract: it is an instance of `Through.antt`, at `update_at`.
 -- Assumes nothing.
 use mathlib.Core.Path.{_≡_, refl}
 use denote.Triple.Table.{cited}

@@ -1,4 +1,4 @@
--- `index::tidy::link_slot` meets its contract.
+-- `tidy::link_slot` meets its contract.
 -- Assumes nothing.
 use Rattle.tidying.proofs.SlotLaws.{slot-linked}
 use borrow.Author.Needs.{needs}

@@ -1,4 +1,4 @@
--- `index::tidy::put_less` meets its contract.
+-- `tidy::put_less` meets its contract.
 -- Assumes nothing.
 use Rattle.tidying.proofs.MovedLaws.{put-one}
 use borrow.Author.Needs.{needs}

@@ -1,4 +1,4 @@
--- `index::tidy::ready` meets its contract.
+-- `tidy::ready` meets its contract.
 -- Assumes nothing.
 use Rattle.tidying.proofs.StaleLaws.{datable-now, count-few, none-moved, is-stale, records-full, changes-full, slots-full, all-passed}
 use native.Mathlib.Omega.{arith}

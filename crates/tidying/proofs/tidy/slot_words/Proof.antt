@@ -1,4 +1,4 @@
--- `index::tidy::slot_words` meets its contract.
+-- `tidy::slot_words` meets its contract.
 -- Assumes nothing.
 use Rattle.tidying.proofs.SlotLaws.{slot-copied}
 use borrow.Author.Needs.{needs}

@@ -1,4 +1,4 @@
--- `index::tidy::stale` meets its contract.
+-- `tidy::stale` meets its contract.
 -- Assumes nothing.
 use Rattle.tidying.proofs.StaleLaws.{stale-head, stale-touched}
 use borrow.Author.Needs.{needs}

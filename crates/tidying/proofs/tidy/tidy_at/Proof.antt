@@ -1,4 +1,4 @@
--- `index::tidy::tidy_at` meets its contract.
+-- `tidy::tidy_at` meets its contract.
 -- Assumes nothing.
 use Rattle.tidying.proofs.TidyLaws.{moved-rows, tidy-refuses, tidy-ready, tidy-answers}
 use borrow.Author.Needs.{needs}

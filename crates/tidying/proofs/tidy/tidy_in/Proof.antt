@@ -1,4 +1,4 @@
--- `index::tidy::tidy_in` meets its contract.
+-- `tidy::tidy_in` meets its contract.
 -- Assumes nothing.
 use Rattle.tidying.proofs.TidyLaws.{tidy-refused, value-cast, tidyable, tidy-served}
 use borrow.Author.Needs.{needs}

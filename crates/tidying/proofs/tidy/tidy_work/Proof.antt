@@ -1,4 +1,4 @@
--- `index::tidy::tidy_work` meets its contract.
+-- `tidy::tidy_work` meets its contract.
 -- Assumes nothing.
 use Rattle.tidying.proofs.TidyLaws.{stamp-next-fits, version-fillable, moved-puttable, tidy-writes, tidy-done}
 use native.Mathlib.Omega.{arith}

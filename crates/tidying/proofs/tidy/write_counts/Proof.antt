@@ -1,4 +1,4 @@
--- `index::tidy::write_counts` meets its contract.
+-- `tidy::write_counts` meets its contract.
 -- Assumes nothing.
 use Rattle.tidying.proofs.TidyLaws.{counts-written}
 use borrow.Author.Needs.{needs}

@@ -1,4 +1,4 @@
--- `index::tidy::write_moved` meets its contract. The invariant: the rows of the words before i are put. The measure is what is left of the words.
+-- `tidy::write_moved` meets its contract. The invariant: the rows of the words before i are put. The measure is what is left of the words.
 -- Assumes nothing.
 use Prim.Native.Nat.{_*_, _-_, _≤_}
 use borrow.Author.Needs.{needs}

@@ -1,4 +1,4 @@
--- `index::tidy::write_tidy` meets its contract.
+-- `tidy::write_tidy` meets its contract.
 -- Assumes nothing.
 use Rattle.tidying.proofs.TidyLaws.{stamp-low, stamp-fits, clock-tidied, log-tidied, tidy-said}
 use borrow.Author.Needs.{needs}

@@ -1,4 +1,4 @@
--- `index::tidy::write_vector` meets its contract.
+-- `tidy::write_vector` meets its contract.
 -- Assumes nothing.
 use Rattle.tidying.proofs.SlotLaws.{mask-rows, vector-written}
 use borrow.Author.Needs.{needs}

@@ -1,4 +1,4 @@
--- `index::tidy::write_word` meets its contract. The invariant: the rows of the first k bits are put, and x is what is left of the word. The measure is what is left of the 64 bits.
+-- `tidy::write_word` meets its contract. The invariant: the rows of the first k bits are put, and x is what is left of the word. The measure is what is left of the 64 bits.
 -- Assumes nothing.
 use Rattle.tidying.proofs.MovedLaws.{WordScan, next, put-length, scan-none, scan-end, next-lt, next-puttable, scan-more}
 use Rattle.tidying.specs.Tidy.{Puttable}

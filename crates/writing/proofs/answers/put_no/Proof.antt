@@ -1,4 +1,4 @@
--- `text::answers::put_no` meets its contract. Assumes nothing.
+-- `answers::put_no` meets its contract. Assumes nothing.
 use borrow.Author.Needs.{needs}
 use Rattle.writing.proofs.WroteLaws.{no-one}
 use Rattle.writing.proofs.answers.put_no.Statement.{statement}

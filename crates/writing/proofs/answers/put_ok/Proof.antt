@@ -1,4 +1,4 @@
--- `text::answers::put_ok` meets its contract. Assumes nothing.
+-- `answers::put_ok` meets its contract. Assumes nothing.
 use borrow.Author.Needs.{needs}
 use Rattle.writing.proofs.WroteLaws.{ok-none}
 use Rattle.writing.proofs.answers.put_ok.Statement.{statement}

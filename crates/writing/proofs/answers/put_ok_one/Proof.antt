@@ -1,4 +1,4 @@
--- `text::answers::put_ok_one` meets its contract. Assumes nothing.
+-- `answers::put_ok_one` meets its contract. Assumes nothing.
 use native.Mathlib.Omega.{arith}
 use borrow.Author.Needs.{needs}
 use Rattle.writing.proofs.WroteLaws.{ok-far, ok-one}

@@ -1,4 +1,4 @@
--- `text::numbers::put_field` meets its contract. Assumes nothing.
+-- `numbers::put_field` meets its contract. Assumes nothing.
 use borrow.Author.Needs.{needs}
 use Rattle.writing.proofs.WroteLaws.{wrote-field}
 use Rattle.writing.proofs.numbers.put_field.Statement.{statement}

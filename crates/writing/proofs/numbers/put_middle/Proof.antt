@@ -1,4 +1,4 @@
--- `text::numbers::put_middle` meets its contract. Assumes nothing.
+-- `numbers::put_middle` meets its contract. Assumes nothing.
 use native.Mathlib.Omega.{arith}
 use borrow.Author.Needs.{needs}
 use Rattle.writing.proofs.WroteLaws.{number-large, number-far}

@@ -1,4 +1,4 @@
--- `text::numbers::put_small` meets its contract. Assumes nothing.
+-- `numbers::put_small` meets its contract. Assumes nothing.
 use borrow.Author.Needs.{needs}
 use Rattle.writing.proofs.WroteLaws.{number-1, number-2, number-3, number-4}
 use Rattle.writing.proofs.numbers.put_small.Statement.{statement}

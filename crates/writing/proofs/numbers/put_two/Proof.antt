@@ -1,4 +1,4 @@
--- `text::numbers::put_two` meets its contract. Assumes nothing.
+-- `numbers::put_two` meets its contract. Assumes nothing.
 use borrow.Author.Needs.{needs}
 use Rattle.writing.proofs.WroteLaws.{wrote-two}
 use Rattle.writing.proofs.numbers.put_two.Statement.{statement}

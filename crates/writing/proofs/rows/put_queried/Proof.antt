@@ -1,4 +1,4 @@
--- `text::rows::put_queried` meets its contract. Assumes nothing.
+-- `rows::put_queried` meets its contract. Assumes nothing.
 use native.Mathlib.Omega.{arith}
 use borrow.Author.Needs.{needs}
 use Rattle.writing.proofs.WroteLaws.{field-far}

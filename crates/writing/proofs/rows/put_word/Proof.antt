@@ -1,4 +1,4 @@
--- `text::rows::put_word` meets its contract: what is written of the rows, and what is still to come, is the whole. Assumes nothing.
+-- `rows::put_word` meets its contract: what is written of the rows, and what is still to come, is the whole. Assumes nothing.
 use mathlib.Core.Path.{refl}
 use native.Mathlib.Omega.{arith}
 use lib.ListN.{length}
