@@ -4,12 +4,15 @@ use mathlib.Core.Path.{_≡_, sym, ap, ap₂, _∙_}
 use mathlib.Core.Bool.{Bool, true, cond, _&&_}
 use mathlib.Core.List.{List, [], _∷_, _++_, append-nil}
 use Prim.Native.Nat.{ℕ, _+_, _≤_, _<_}
+use mathlib.Core.Logic.{_⊎_, inl, inr}
 use native.Mathlib.Omega.{arith}
 use borrow.Author.Tests.{le-leb, lt-ltb, le-ltb, eq-eqb, ne-eqb}
 use lib.ListN.{length, getD, set, drop, replicate, length-map}
 use lib.Seq.{sets, sets-eq, drop-length}
 use denote.Laws.{Is}
 use denote.Struct.Laws.{val}
+use lib.Dec.{ltb}
+use Rattle.bits.specs.Cases.{lt-cases}
 use Rattle.bits.specs.All.{allBelow, all-none, all-more}
 use Rattle.bits.specs.Tab.{getD-any}
 use Rattle.tables.specs.declared.session.Session.{Session}
@@ -17,7 +20,7 @@ use Rattle.tables.specs.declared.clock.Clock.{Clock}
 use Rattle.tables.specs.Clock.{lentClock}
 use Rattle.tables.specs.Sessions.{freed, sessionAt}
 use Rattle.damage.specs.Judged.{sessionJudged}
-use Rattle.lent.specs.Places.{seatAt, putAt, freedAll, seat-near, put-at-far}
+use Rattle.lent.specs.Places.{seatAt, putAt, freedAll, put-at-far}
 use Rattle.lent.specs.Seats.{allFit, seatOf}
 use Rattle.lines.specs.declared.held.Sessions.{Sessions}
 use Rattle.lines.specs.Settled.{settledAt}
@@ -48,25 +51,47 @@ module _ (ts : List Session) (log : List ℕ) (c : Clock) where
       ap₂ (λ (x y : Bool). x && y) e (q ∙ ap (λ (s : Session). sessionJudged s log c) (getD-any ts i d freed (omega (arith, n, l))))
       ∙ sym (all-more (λ k. sessionJudged (sessionAt ts k) log c) i)
 
-  pub fit-all : (i : ℕ) (ok : Bool) → length ts ≡ 16 → i ≤ 16 → 16 ≤ i → ok ≡ fitsUpTo i → ok ≡ allFit ts log c
+  fit-all : (i : ℕ) (ok : Bool) → length ts ≡ 16 → i ≤ 16 → 16 ≤ i → ok ≡ fitsUpTo i → ok ≡ allFit ts log c
   fit-all i ok n l m e =
       let z : i ≡ 16 = omega (arith, l, m) in
       e ∙ ap fitsUpTo z ∙ ap (λ (b : Bool). b && fitsUpTo 16) (sym (le-leb 16 (length ts) (omega (arith, n))))
 
 -- ---- the session at a place, and the seat
 
+pub near-past : (n : ℕ) → 15 < n → 0 ≡ cond (ltb n 16) n 0
+near-past n l = rw (le-ltb n 16 (omega (arith, l)))
+
+pub near-here : (n : ℕ) → n ≤ 15 → n ≡ cond (ltb n 16) n 0
+near-here n l = rw (lt-ltb n 16 (omega (arith, l)))
+
+pub there-past : (n : ℕ) (s r : Session) → 15 < n → r ≡ freed → r ≡ cond (ltb n 16) s freed
+there-past n s r l e = rw (le-ltb n 16 (omega (arith, l))) e
+
+pub there-here : (n : ℕ) (s : Session) → n ≤ 15 → s ≡ cond (ltb n 16) s freed
+there-here n s l = rw (lt-ltb n 16 (omega (arith, l)))
+
+pub near-low : (n p : ℕ) → p ≡ cond (ltb n 16) n 0 → p < 16
+near-low n p e = go (lt-cases n 16)
+  where
+    go : (n < 16) ⊎ (16 ≤ n) → p < 16
+    go (inl l) = let q : p ≡ n = e ∙ ap (λ (b : Bool). cond b n 0) (lt-ltb n 16 l) in omega (arith, q, l)
+    go (inr l) = let q : p ≡ 0 = e ∙ ap (λ (b : Bool). cond b n 0) (le-ltb n 16 l) in omega (arith, q)
+
 module _ (ts : List Session) (n : ℕ) where
-  pub place-none : (s : Session) → s ≡ freed → 15 < n → s ≡ seatAt ts n
+  one-there : (p : ℕ) (d one : Session) → length ts ≡ 16 → p ≡ cond (ltb n 16) n 0 → one ≡ cond (ltb n 16) (getD ts p d) freed → one ≡ seatAt ts n
   unfolding seatAt
-  place-none s e l = e ∙ ap (λ (b : Bool). cond b (sessionAt ts n) freed) (sym (le-ltb n 16 (omega (arith, l))))
+  one-there p d one k e h = h ∙ go (lt-cases n 16)
+    where
+      go : (n < 16) ⊎ (16 ≤ n) → cond (ltb n 16) (getD ts p d) freed ≡ cond (ltb n 16) (sessionAt ts n) freed
+      go (inl l) =
+          let q : p ≡ n = e ∙ ap (λ (b : Bool). cond b n 0) (lt-ltb n 16 l) in
+          rw (lt-ltb n 16 l) (ap (λ (i : ℕ). getD ts i d) q ∙ getD-any ts n d freed (omega (arith, k, l)))
+      go (inr l) = rw (le-ltb n 16 l)
 
-  pub place-at : (d : Session) → length ts ≡ 16 → n ≤ 15 → getD ts n d ≡ seatAt ts n
-  place-at d k l = getD-any ts n d freed (omega (arith, k, l)) ∙ sym (seat-near ts n (omega (arith, l)))
-
-  pub seat-made : (clock log : List ℕ) (c : Clock) (fit : Bool) (one : Session) → length ts ≡ 16 → c ≡ lentClock clock → fit ≡ allFit ts log c → one ≡ seatAt ts n
-      → record { places = 16; fit = fit; session = one } ≡ seatOf clock log ts n
+  pub seat-made : (clock log : List ℕ) (c : Clock) (i p : ℕ) (fit : Bool) (d one : Session) → length ts ≡ 16 → c ≡ lentClock clock → i ≤ 16 → 16 ≤ i → fit ≡ fitsUpTo ts log c i
+      → p ≡ cond (ltb n 16) n 0 → one ≡ cond (ltb n 16) (getD ts p d) freed → record { places = 16; fit = fit; session = one } ≡ seatOf clock log ts n
   unfolding seatOf
-  seat-made clock log c fit one k p q r = rw (q, r, p, k)
+  seat-made clock log c i p fit d one k e l m f q h = rw (fit-all ts log c i fit k l m f, one-there p d one k q h, e, k)
 
 -- ---- the sessions after a line
 

@@ -1,12 +1,12 @@
 // The sixteen sessions, held by value. Assumes nothing.
 use lent::Seat;
-use tables::Clock;
 use tables::Session;
 ghost use mathlib.Core.Path.{_≡_};
+ghost use mathlib.Core.Bool.{cond};
+ghost use lib.Dec.{ltb};
 ghost use lib.ListN.{replicate};
 ghost use Rattle.tables.specs.Sessions.{freed};
-ghost use Rattle.lent.specs.Places.{seatAt};
-ghost use Rattle.lent.specs.Seats.{allFit, seatOf};
+ghost use Rattle.lent.specs.Seats.{seatOf};
 ghost use Rattle.lines.specs.Settled.{settledAt};
 
 // The session table of a program that holds it.
@@ -30,10 +30,31 @@ pub fn all_free() -> Sessions
     Sessions { at: [free; 16] }
 }
 
-// Whether every session fits.
-fn all_fit(all: Sessions, log: &[u32], c: Clock) -> bool
-    ensures { λ r. ⌜ r ≡ allFit (all .at) (now (log .entry)) c ⌝ }
+// The place of session n; the first where n is no place.
+fn place_near(n: u64) -> usize
+    ensures { λ r. ⌜ r ≡ cond (ltb n 16) n 0 ⌝ }
 {
+    if 15 < n {
+        return 0;
+    }
+    n as usize
+}
+
+// The session of number n; a free one where n is no place.
+fn there(s: Session, n: u64) -> Session
+    ensures { λ r. ⌜ r ≡ cond (ltb n 16) s freed ⌝ }
+{
+    if 15 < n {
+        return tables::free_session();
+    }
+    s
+}
+
+// The seat of session n. All is in one function, for a function that takes the sessions copies them.
+pub fn seat_of(all: Sessions, clock: &[u32], log: &[u32], n: u64) -> Seat
+    ensures { λ r. ⌜ r ≡ seatOf (now (clock .entry)) (now (log .entry)) (all .at) n ⌝ }
+{
+    let c = tables::clock_lent(clock);
     let mut ok = true;
     let mut i: usize = 0;
     while i < 16 {
@@ -42,31 +63,12 @@ fn all_fit(all: Sessions, log: &[u32], c: Clock) -> bool
         ok = ok & fits;
         i += 1;
     }
-    ok
-}
-
-// The session at place n; a free one where n is no place.
-fn place(all: Sessions, n: u64) -> Session
-    ensures { λ r. ⌜ r ≡ seatAt (all .at) n ⌝ }
-{
-    if 15 < n {
-        return tables::free_session();
-    }
-    let i = n as usize;
-    all.at[i]
-}
-
-// The seat of session n.
-pub fn seat_of(all: Sessions, clock: &[u32], log: &[u32], n: u64) -> Seat
-    ensures { λ r. ⌜ r ≡ seatOf (now (clock .entry)) (now (log .entry)) (all .at) n ⌝ }
-{
-    let c = tables::clock_lent(clock);
-    let fit = all_fit(all, log, c);
-    let one = place(all, n);
+    let at = place_near(n);
+    let one = all.at[at];
     Seat {
         places: 16,
-        fit: fit,
-        session: one,
+        fit: ok,
+        session: there(one, n),
     }
 }
 

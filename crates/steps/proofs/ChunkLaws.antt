@@ -8,13 +8,15 @@ use Prim.Native.Nat.{ℕ, _+_, _-_, _<_, _≤_}
 use native.Mathlib.Omega.{arith}
 use borrow.Author.Tests.{lt-ltb, ltb-true, leb-true, leb-false}
 use lib.Dec.{leb, ltb}
-use lib.ListN.{length, take, drop, length-append, length-take, length-drop, drop-of-length-le}
+use lib.ListN.{length, take, drop, length-append, length-take, length-drop, set, drop-of-length-le}
 use lib.Seq.{sets, sets-eq, length-sets, take-all, take-append-seam}
 use Rattle.bits.specs.Cases.{eq-cases}
 use Rattle.text.specs.declared.feed.Fed.{Fed}
 use Rattle.text.specs.Feed.{cut, pend, wholeLine, Feeds}
 use Rattle.tables.specs.declared.session.Session.{Session}
 use Rattle.tables.specs.Cells.{tables}
+use Rattle.lines.specs.Settled.{settledAt}
+use Rattle.lines.proofs.HeldLaws.{settled-put, settled-kept}
 use Rattle.steps.specs.Desk.{Desk, desk, afterLines, answersOf}
 use Rattle.steps.specs.Answers.{Replied, linesLeft, pendingLeft, Spot, spot, Fits, Comes, Answers, Through}
 use Rattle.steps.proofs.ReplyLaws.{answers-append, after-append}
@@ -107,7 +109,13 @@ module _ {bytes : List ℕ} {s₀ : Spot} {d d′ : Desk} {pending pending′ ou
         still = λ e. absurd (omega (arith, e, came .onward, fs .goes-on));
       }
 
--- with the session put back
+-- the session put back where the line says
+pub put-settled : (ts : List Session) (place : ℕ) (x : Session) → place < 16 → set ts place x ≡ settledAt ts place x
+put-settled ts place x l = settled-put ts place x (λ e. omega (arith, l, e)) (omega (arith, l))
+
+pub kept-settled : (ts : List Session) (place : ℕ) (x : Session) → 16 ≤ place → (place ≡ 17 → ⊥) → ts ≡ settledAt ts place x
+kept-settled ts place x l e = settled-kept ts place x e (omega (arith, l))
+
 pub comes-settled : {bytes : List ℕ} {s₀ : Spot} {clock slots words heads log changes scratch pending out : List ℕ} {len filled at : ℕ} {ts us : List Session} → us ≡ ts
     → Comes bytes s₀ (spot (desk (tables clock slots words heads log changes ts) scratch) pending len out filled at)
     → Comes bytes s₀ (spot (desk (tables clock slots words heads log changes us) scratch) pending len out filled at)

@@ -107,8 +107,14 @@ pub fn answer(
             all,
             fed,
         );
-        let next = lines::settled(all, done);
-        all = next;
+        let place = done.place;
+        if place < 16 {
+            let session = done.session;
+            all.at[place] = session;
+        } else if place == 17 {
+            let next = lines::settled(all, done);
+            all = next;
+        }
         filled = filled + done.len;
         len = fed.len;
         at = fed.next;

@@ -1,14 +1,17 @@
 -- `chunk::answer` meets its contract: at the loop's head, what the whole chunk comes to is what it comes to from there.
 -- Assumes nothing.
-use mathlib.Core.Path.{refl, _∙_}
+use mathlib.Core.Path.{_≡_, refl, ap, _∙_}
+use mathlib.Core.Logic.{⊎-elim}
 use Prim.Native.Nat.{_-_}
 use native.Mathlib.Omega.{arith}
 use borrow.Author.Needs.{needs}
 use lib.ListN.{length}
 use Rattle.tables.specs.Cells.{tables}
+use Rattle.lines.specs.declared.held.Sessions.{Sessions}
+use Rattle.lines.specs.Settled.{settledAt}
 use Rattle.steps.specs.Desk.{desk}
 use Rattle.steps.specs.Answers.{spot}
-use Rattle.steps.proofs.ChunkLaws.{Going, comes-none, filled-more, comes-more, comes-settled, going-left, going-room, going-part, going-end}
+use Rattle.steps.proofs.ChunkLaws.{Going, comes-none, filled-more, comes-more, comes-settled, put-settled, kept-settled, going-left, going-room, going-part, going-end}
 use Rattle.steps.proofs.chunk.answer.Statement.{statement}
 use Rattle.steps.proofs.chunk.answer.Tie as tie
 
@@ -58,6 +61,12 @@ part-answered-end c = search needs
 answered-requires : tie.Need-answered-requires Inv-loop μ-loop
 answered-requires c κs = (c .before .before .before .before .before .before .before .before .before .before .before .before .before .before .before .loop .inv .wide, going-part (c .before .before .before .before .before .before .before .before .before .before .before .before .before .before .before .loop .inv) (c .before .before .before .before .before .before .before .before .before .before .before .before .before .before .loop-test .taken), omega (arith, c .before .before .before .before .before .before .before .before .before .before .before .before .feed-line .ensures .line-fits, c .before .before .before .before .before .before .before .before .before .before .before .before .feed-line .ensures .room))
 
+mul-session : tie.Need-mul-session Inv-loop μ-loop
+mul-session c = omega (arith, c .before .if1 .taken)
+
+element-set-from-session : tie.Need-element-set-from-session Inv-loop μ-loop
+element-set-from-session c = omega (arith, c .before .if1 .taken)
+
 settled-requires : tie.Need-settled-requires Inv-loop μ-loop
 settled-requires c κs = search needs
 
@@ -72,6 +81,10 @@ loop-less c = omega (arith, c .before .before .before .before .before .before .b
 
 loop-again : tie.Need-loop-again Inv-loop μ-loop
 loop-again c =
+    let put : c .before .before .if1 .all .at ≡ settledAt (c .before .before .before .before .before .before .before .before .before .before .before .before .before .before .before .before .before .before .before .before .before .before .before .before .before .before .before .before .before .before .before .before .before .before .before .before .before .loop .all .at) (c .before .before .before .before .before .before .before .before .before .before .before .before .before .before .before .before .before .before .before .before .before .answered .result .place) (c .before .before .before .before .before .before .before .before .before .before .before .before .before .before .before .before .before .before .before .before .before .answered .result .session) =
+    ⊎-elim (λ w. ap (λ (s : Sessions). s .at) (w .2) ∙ put-settled _ _ _ (w .0 .taken))
+    (λ v. ⊎-elim (λ w. ap (λ (s : Sessions). s .at) (w .3) ∙ w .2 .ensures) (λ w. ap (λ (s : Sessions). s .at) (w .2) ∙ kept-settled _ _ _ (w .0 .left) (w .1 .left)) v)
+    (c .before .before .if1 .came) in
     record {
       clock-same = c .before .before .before .before .before .before .before .before .before .before .before .before .before .before .before .before .before .before .before .before .before .answered .kept .0 ∙ c .before .before .before .before .before .before .before .before .before .before .before .before .before .before .before .before .before .before .before .before .before .before .before .before .before .before .before .before .before .before .before .before .before .before .before .before .before .loop .inv .clock-same;
       slots-same = c .before .before .before .before .before .before .before .before .before .before .before .before .before .before .before .before .before .before .before .before .before .answered .kept .1 .0 ∙ c .before .before .before .before .before .before .before .before .before .before .before .before .before .before .before .before .before .before .before .before .before .before .before .before .before .before .before .before .before .before .before .before .before .before .before .before .before .loop .inv .slots-same;
@@ -84,7 +97,7 @@ loop-again c =
       pending-same = comes-more (c .before .before .before .before .before .before .before .before .before .before .before .before .before .before .before .before .before .before .before .before .before .before .before .before .before .before .before .before .before .before .before .before .before .before .before .before .before .loop .inv .came) (going-room (c .before .before .before .before .before .before .before .before .before .before .before .before .before .before .before .before .before .before .before .before .before .before .before .before .before .before .before .before .before .before .before .before .before .before .before .before .before .loop .inv) (c .before .before .before .before .before .before .before .before .before .before .before .before .before .before .before .before .before .before .before .before .before .before .before .before .before .before .before .before .before .before .before .before .before .before .before .before .loop-test .taken)) (c .before .before .before .before .before .before .before .before .before .before .before .before .before .before .before .before .before .before .before .before .before .before .before .before .before .before .before .before .before .before .before .before .before .before .feed-line .ensures) (c .before .before .before .before .before .before .before .before .before .before .before .before .before .before .before .before .before .before .before .before .before .answered .ensures) .pending-room;
       out-same = comes-more (c .before .before .before .before .before .before .before .before .before .before .before .before .before .before .before .before .before .before .before .before .before .before .before .before .before .before .before .before .before .before .before .before .before .before .before .before .before .loop .inv .came) (going-room (c .before .before .before .before .before .before .before .before .before .before .before .before .before .before .before .before .before .before .before .before .before .before .before .before .before .before .before .before .before .before .before .before .before .before .before .before .before .loop .inv) (c .before .before .before .before .before .before .before .before .before .before .before .before .before .before .before .before .before .before .before .before .before .before .before .before .before .before .before .before .before .before .before .before .before .before .before .before .loop-test .taken)) (c .before .before .before .before .before .before .before .before .before .before .before .before .before .before .before .before .before .before .before .before .before .before .before .before .before .before .before .before .before .before .before .before .before .before .feed-line .ensures) (c .before .before .before .before .before .before .before .before .before .before .before .before .before .before .before .before .before .before .before .before .before .answered .ensures) .out-room;
       wide = omega (arith, c .before .before .before .before .before .before .before .before .before .before .before .before .before .before .before .before .before .before .before .before .before .before .before .before .before .before .before .before .before .before .before .before .before .before .before .before .before .loop .inv .wide, c .before .before .before .before .before .before .before .before .before .before .before .before .before .before .before .before .before .before .before .before .before .answered .kept .1 .1 .1 .1 .1 .1 .1 .0);
-      came = comes-settled (c .before .before .settled .ensures) (comes-more (c .before .before .before .before .before .before .before .before .before .before .before .before .before .before .before .before .before .before .before .before .before .before .before .before .before .before .before .before .before .before .before .before .before .before .before .before .before .loop .inv .came) (going-room (c .before .before .before .before .before .before .before .before .before .before .before .before .before .before .before .before .before .before .before .before .before .before .before .before .before .before .before .before .before .before .before .before .before .before .before .before .before .loop .inv) (c .before .before .before .before .before .before .before .before .before .before .before .before .before .before .before .before .before .before .before .before .before .before .before .before .before .before .before .before .before .before .before .before .before .before .before .before .loop-test .taken)) (c .before .before .before .before .before .before .before .before .before .before .before .before .before .before .before .before .before .before .before .before .before .before .before .before .before .before .before .before .before .before .before .before .before .before .feed-line .ensures) (c .before .before .before .before .before .before .before .before .before .before .before .before .before .before .before .before .before .before .before .before .before .answered .ensures));
+      came = comes-settled put (comes-more (c .before .before .before .before .before .before .before .before .before .before .before .before .before .before .before .before .before .before .before .before .before .before .before .before .before .before .before .before .before .before .before .before .before .before .before .before .before .loop .inv .came) (going-room (c .before .before .before .before .before .before .before .before .before .before .before .before .before .before .before .before .before .before .before .before .before .before .before .before .before .before .before .before .before .before .before .before .before .before .before .before .before .loop .inv) (c .before .before .before .before .before .before .before .before .before .before .before .before .before .before .before .before .before .before .before .before .before .before .before .before .before .before .before .before .before .before .before .before .before .before .before .before .loop-test .taken)) (c .before .before .before .before .before .before .before .before .before .before .before .before .before .before .before .before .before .before .before .before .before .before .before .before .before .before .before .before .before .before .before .before .before .before .feed-line .ensures) (c .before .before .before .before .before .before .before .before .before .before .before .before .before .before .before .before .before .before .before .before .before .answered .ensures));
       test = c .goes-on2 .ensures;
     }
 
@@ -134,6 +147,8 @@ answer-spec =
     part-answered-start
     part-answered-end
     answered-requires
+    mul-session
+    element-set-from-session
     settled-requires
     add-filled
     goes-on-requires-2
