@@ -266,6 +266,12 @@ def opening(t):
     return None, model(t)
 
 
+def asked(t, ask):
+    """The model after a call of it, and its answer; numbers 1 and 2 come first."""
+    number, index = opening(t)
+    return index, ("no", number) if number else ask(index)
+
+
 def create(t, C, column):
     """The column's bytes are values, or 255 for absent."""
     if without_room(t):
@@ -290,10 +296,7 @@ def create(t, C, column):
 
 def begin(t, session):
     """Answers the start stamp and the start row count."""
-    number, index = opening(t)
-    if number:
-        return ("no", number)
-    answer = index.begin(session)
+    _, answer = asked(t, lambda index: index.begin(session))
     if answer[0] == "no":
         return answer
     place = t.sessions[session]
@@ -327,23 +330,22 @@ def query(t, scratch, session, value, threshold):
 
 
 def picked(t_words, scratch, place):
-    """The part that the place names: the scratch's first 32 words, or those of a slot; empty where they were not lent."""
+    """The part that the place names: the scratch's first 32 words, or those of one of the 96 slots; empty where there is none."""
+    if place > MOST_SLOTS:
+        return []
     part = scratch[:WORDS] if place == 0 else t_words[WORDS * (place - 1):WORDS * place]
     return part if len(part) == WORDS else []
 
 
 def read(t, session, row):
     """Answers the value, or that the row is absent."""
-    number, index = opening(t)
-    if number:
-        return ("no", number)
-    answer = index.read(session, row)
+    _, answer = asked(t, lambda index: index.read(session, row))
     if answer[0] == "no":
         return answer
     return ("absent",) if answer[1] is ABSENT else ("value", answer[1])
 
 
-def listing(t, session, answer, index):
+def listing(t, session, index, answer):
     """Stores the model's list into the session's cells where a call changed it; answers its length."""
     if answer[0] == "no":
         return answer
@@ -355,28 +357,22 @@ def listing(t, session, answer, index):
 
 def update(t, session, row, value):
     """Answers the list's length."""
-    number, index = opening(t)
-    return ("no", number) if number else listing(t, session, index.update(session, row, value), index)
+    return listing(t, session, *asked(t, lambda index: index.update(session, row, value)))
 
 
 def delete(t, session, row):
     """Answers the list's length."""
-    number, index = opening(t)
-    return ("no", number) if number else listing(t, session, index.delete(session, row), index)
+    return listing(t, session, *asked(t, lambda index: index.delete(session, row)))
 
 
 def insert(t, session, value):
     """Answers the list's length."""
-    number, index = opening(t)
-    return ("no", number) if number else listing(t, session, index.insert(session, value), index)
+    return listing(t, session, *asked(t, lambda index: index.insert(session, value)))
 
 
 def commit(t, session):
     """Answers stamp and row count after."""
-    number, index = opening(t)
-    if number:
-        return ("no", number)
-    answer = index.commit(session)
+    index, answer = asked(t, lambda index: index.commit(session))
     if answer[0] == "no":
         return answer
     store_record(t, index.log[-1])
@@ -386,10 +382,7 @@ def commit(t, session):
 
 def tidy(t, session, value):
     """Answers stamp and number moved."""
-    number, index = opening(t)
-    if number:
-        return ("no", number)
-    answer = index.tidy(session, value)
+    index, answer = asked(t, lambda index: index.tidy(session, value))
     if answer[0] == "no":
         return answer
     store_slot(t, index.slots[-1])
@@ -399,10 +392,7 @@ def tidy(t, session, value):
 
 def abort(t, session):
     """Answers the length of the list dropped."""
-    number, index = opening(t)
-    if number:
-        return ("no", number)
-    answer = index.abort(session)
+    _, answer = asked(t, lambda index: index.abort(session))
     if answer[0] == "no":
         return answer
     t.sessions[session] = Place()

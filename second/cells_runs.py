@@ -586,8 +586,8 @@ def calls(random, t, count):
         if answer[0] == "query":
             yield ("call", "picked", (answer[3],))
         elif random.random() < 0.05:
-            # places 97 and on name no slot, and words beyond the needed length may be lent: not asked there
-            yield ("call", "picked", (random.choice((0, 1, 2, MOST_SLOTS, 2 ** 32, 2 ** 32 + 1, 2 ** 59, 2 ** 63, 2 ** 64 - 1)),))
+            # places 97 and on name no slot, also where words beyond the needed length were lent
+            yield ("call", "picked", (random.choice((0, 1, 2, MOST_SLOTS, MOST_SLOTS + 1, 2 ** 32, 2 ** 32 + 1, 2 ** 59, 2 ** 63, 2 ** 64 - 1)),))
 
 
 TABLES = ((begun, 3), (grown, 4), (by_hand, 8), (full, 3))
