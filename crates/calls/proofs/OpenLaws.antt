@@ -3,7 +3,7 @@
 use mathlib.Core.Path.{_≡_, refl, sym, ap, ap₂, subst, _∙_}
 use mathlib.Core.Bool.{Bool, true, false, cond}
 use mathlib.Core.Option.{Option, none, some, Option·map}
-use mathlib.Core.List.{[], _∷_}
+use mathlib.Core.List.{List, [], _∷_}
 use mathlib.Core.Logic.{_⊎_, inl, inr}
 use Prim.Native.Nat.{ℕ, zero, suc, _≤_, _<_}
 use native.Mathlib.Omega.{arith}
@@ -24,10 +24,23 @@ use Rattle.tables.specs.Meaning.{targetOf, entryAt, entries, sessionOf, meaning
 use Rattle.tables.proofs.Facts.{parts}
 use Rattle.tables.proofs.Sessions.{OpenFacts, open-at}
 use Rattle.tables.proofs.Means.{open-means}
+use Rattle.lent.specs.declared.seats.Seat.{Seat}
 use Rattle.calls.specs.Calls.{orPlace, spotOf}
-use Rattle.calls.specs.Opened.{OpenIn}
-use Rattle.calls.proofs.Entered.{seat-means, seat-there}
+use Rattle.calls.specs.declared.enter.Test.the-variants.{Passed}
+use Rattle.calls.specs.Enter.{whyOf, openedBy}
+use Rattle.calls.specs.Opened.{Usable, OpenIn}
+use Rattle.calls.specs.declared.enter.Test as asked
+use Rattle.calls.proofs.Entered.{opened-passed, seat-means, seat-there}
 use Rattle.calls.proofs.ListLaws.{hasRow, entry-new, entry-row}
+
+-- ---- what a core that the session is open for knows of the number tables and of the session
+
+pub opened-usable : (clock slots words heads log changes : List ℕ) (x : Seat) (n : ℕ) (test : asked.Test)
+    → whyOf test ≡ openedBy clock slots words heads log changes x n → test ≡ Passed
+    → Usable clock slots words heads log changes (x .session)
+opened-usable clock slots words heads log changes x n test q h =
+    let p = opened-passed clock slots words heads log changes x n test h q in
+    record { room = p .room; good = p .good; start-old = p .start-old; rows-few = p .rows-few; count-low = p .count-low }
 
 -- ---- what it means
 

@@ -39,15 +39,16 @@ reseated t n x = stores t (seat n x ∷ [])
 -- changes nothing"
 unfoldable pub beginning : Tables → ℕ → Session → Outcome
 beginning t n x =
-    cond (eqb (x .live) 1) (outcome t (numbers (x .start .0 ∷ x .rows .0 ∷ [])))
-    (outcome (reseated t n (begun (clockIn (t .clock) .stamp) (clockIn (t .clock) .rows))) (numbers (stampIn (t .clock) ∷ rowsIn (t .clock) ∷ [])))
+    cond (eqb (x .live) 1) (outcome t [] (numbers (x .start .0 ∷ x .rows .0 ∷ [])))
+    (outcome (reseated t n (begun (clockIn (t .clock) .stamp) (clockIn (t .clock) .rows))) []
+    (numbers (stampIn (t .clock) ∷ rowsIn (t .clock) ∷ [])))
 
 unfoldable pub beginOf : Tables → ℕ → Outcome
-beginOf t n = unless (refusalAt t (begin n)) t (beginning t n (own t n))
+beginOf t n = unless (refusalAt t (begin n)) t [] (beginning t n (own t n))
 
 -- Read: "the smallest v whose query has the bit; absent if none"
 unfoldable pub readOf : Tables → ℕ → ℕ → Outcome
-readOf t n r = unless (refusalAt t (read n r)) t (outcome t (value (readIn (meaning t) (session (meaning t) n) r)))
+readOf t n r = unless (refusalAt t (read n r)) t [] (outcome t [] (value (readIn (meaning t) (session (meaning t) n) r)))
 
 -- where in a list row r stands: its entry, or the count where it is not listed
 abbrev pub orPlace : Option ℕ → ℕ → ℕ
@@ -63,22 +64,22 @@ listedAt x i at to = withEntry x i at to (cond (ltb i (x .count)) (x .count) (x 
 
 -- "The answer is the list's length."
 abbrev pub relisted : Tables → ℕ → Session → Outcome
-relisted t n x = outcome (reseated t n x) (numbers (x .count ∷ []))
+relisted t n x = outcome (reseated t n x) [] (numbers (x .count ∷ []))
 
 -- Update, delete: "A second change of a row replaces the entry where it stands."; the target 255 is absent
 unfoldable pub updateOf : Tables → ℕ → ℕ → ℕ → Outcome
-updateOf t n r v = unless (refusalAt t (update n r v)) t (relisted t n (listedAt (own t n) (spotOf (own t n) r) r v))
+updateOf t n r v = unless (refusalAt t (update n r v)) t [] (relisted t n (listedAt (own t n) (spotOf (own t n) r) r v))
 
 unfoldable pub deleteOf : Tables → ℕ → ℕ → Outcome
-deleteOf t n r = unless (refusalAt t (delete n r)) t (relisted t n (listedAt (own t n) (spotOf (own t n) r) r 255))
+deleteOf t n r = unless (refusalAt t (delete n r)) t [] (relisted t n (listedAt (own t n) (spotOf (own t n) r) r 255))
 
 -- Insert: the row cell 65,535
 unfoldable pub insertOf : Tables → ℕ → ℕ → Outcome
-insertOf t n v = unless (refusalAt t (insert n v)) t (relisted t n (listedAt (own t n) (own t n .count) 65535 v))
+insertOf t n v = unless (refusalAt t (insert n v)) t [] (relisted t n (listedAt (own t n) (own t n .count) 65535 v))
 
 -- Abort: "frees the session and answers the length of the list dropped"
 unfoldable pub abortOf : Tables → ℕ → Outcome
-abortOf t n = unless (refusalAt t (abort n)) t (outcome (reseated t n freed) (numbers (own t n .count ∷ [])))
+abortOf t n = unless (refusalAt t (abort n)) t [] (outcome (reseated t n freed) [] (numbers (own t n .count ∷ [])))
 
 -- Commit: its changes, its record, the clock, and the session freed
 abbrev pub commitRows : Tables → ℕ → ℕ
@@ -94,7 +95,7 @@ commitStores t n =
 
 unfoldable pub commitOf : Tables → ℕ → Outcome
 commitOf t n =
-    unless (refusalAt t (commit n)) t (outcome (stores t (commitStores t n)) (numbers ((stampIn (t .clock) + 1) ∷ commitRows t n ∷ [])))
+    unless (refusalAt t (commit n)) t [] (outcome (stores t (commitStores t n)) [] (numbers ((stampIn (t .clock) + 1) ∷ commitRows t n ∷ [])))
 
 -- Tidy: "a new slot for v holds the vector queried at s, linked to the old head, with stamp now plus 1; the head moves; a tidy
 -- record of that stamp lists the moved rows in ascending order with their flip sets at s less v"
@@ -113,13 +114,19 @@ tidyStores t s v =
 unfoldable pub tidyOf : Tables → ℕ → ℕ → Outcome
 tidyOf t n v =
     let s = own t n .start .0 in
-    unless (refusalAt t (tidy n v)) t
-    (outcome (stores t (tidyStores t s v)) (numbers ((stampIn (t .clock) + 1) ∷ length (moved (meaning t .log) s v) ∷ [])))
+    unless (refusalAt t (tidy n v)) t []
+    (outcome (stores t (tidyStores t s v)) [] (numbers ((stampIn (t .clock) + 1) ∷ length (moved (meaning t .log) s v) ∷ [])))
 
--- Create: "Every unused cell within the needed table lengths becomes 0; cells beyond stay."
+-- Create: "It makes slots 0 to C-1 with stamp 0, one per value, no links": cell i of the slot cells, and of the heads, is i below C,
+-- so that slot i has value i and head i names it; every other cell of theirs, each stamp and each link too, is 0
 abbrev pub below : ℕ → ℕ → ℕ
 below c i = cond (ltb i c) i 0
 
+-- "Every unused cell within the needed table lengths becomes 0; cells beyond stay.": `over xs d` is xs stored over the first cells
+-- of d, and the rest of d as it was. In order: the clock's six cells (C, first row count, stamp 0, row count, C slots in use, no
+-- change in use); the values, stamps and links of the 96 slots; their 96 vectors of 32 words, that of slot v below C with the rows
+-- that hold v; the 32 heads; the four cells of each of the 512 records, and the two of each of the 2,048 changes, all 0; and the
+-- sixteen sessions, all free
 abbrev pub createdTables : Tables → ℕ → List ℕ → Tables
 createdTables t c col =
     tables (over (c ∷ length col ∷ 0 ∷ length col ∷ c ∷ 0 ∷ []) (t .clock)) (over (tab (below c) 288) (t .slots))
@@ -131,4 +138,4 @@ abbrev pub columnOf : List ℕ → Column
 columnOf col = map valueOf col
 
 unfoldable pub createOf : Tables → ℕ → List ℕ → Outcome
-createOf t c col = unless (refusalOfCreate t (create c (columnOf col))) t (outcome (createdTables t c col) (numbers (length col ∷ [])))
+createOf t c col = unless (refusalOfCreate t (create c (columnOf col))) t [] (outcome (createdTables t c col) [] (numbers (length col ∷ [])))

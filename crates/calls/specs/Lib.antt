@@ -4,5 +4,6 @@ pub mod Stores
 pub mod Calls
 pub mod Query
 pub mod Seats
+pub mod Narrow
 pub mod Enter
 pub mod Opened

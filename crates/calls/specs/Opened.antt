@@ -2,7 +2,7 @@
 -- Assumes nothing.
 use mathlib.Core.Path.{_≡_}
 use mathlib.Core.Bool.{true}
-use mathlib.Core.List.{List}
+use mathlib.Core.List.{List, []}
 use Prim.Native.Nat.{ℕ, _≤_, _<_}
 use lib.ListN.{replicate}
 use Rattle.tables.specs.declared.session.Session.{Session}
@@ -10,11 +10,11 @@ use Rattle.tables.specs.Cells.{Tables, tables, stampIn}
 use Rattle.tables.specs.Sessions.{freed}
 use Rattle.tables.specs.Room.{roomy}
 use Rattle.tables.specs.Damage.{sound}
-use Rattle.calls.specs.declared.answers.Done.{Done}
+use Rattle.calls.specs.declared.answers.Answer.{Answer}
 use Rattle.calls.specs.Said.{said}
 use Rattle.calls.specs.Outcome.{Outcome, outcome}
 use Rattle.calls.specs.Calls.{own}
-use Rattle.calls.specs.Seats.{resat}
+use Rattle.calls.specs.Seats.{beside, Leaves}
 
 -- the number tables have room and are not damaged, as they are beside sixteen free sessions; the session's start, its row count
 -- and its number of entries are within reach
@@ -33,11 +33,12 @@ pub record OpenIn (t : Tables) (n : ℕ) (x : Session) : Type 0 where
   pub own-there : own t n ≡ x
   pub live-one : x .live ≡ 1
 
--- What a part of a core promises where the session is open: the tables that it leaves, with its session put back, and its answer
--- are what `call` says of the tables.
-abbrev pub Settles : (List Session → Tables) → (List Session → Tables) → (Tables → Outcome) → Session → ℕ → Done → Type 0
-Settles before after call x n d = (ts : List Session) → OpenIn (before ts) n x → outcome (resat (after ts) d) (said (d .answer)) ≡ call (before ts)
+-- What a part of a core promises where the session is open.
+abbrev pub Settles : (List Session → Tables) → (List Session → Tables) → Session → ℕ → (List Session → List Session) → Answer
+    → (Tables → Outcome) → Type 0
+Settles before after x n settled a call = Leaves (λ ts. OpenIn (before ts) n x) before after [] settled a call
 
--- the same of a part that has no table: of any tables
-abbrev pub SettlesAny : (Tables → Outcome) → Session → ℕ → Done → Type 0
-SettlesAny call x n d = (t : Tables) → OpenIn t n x → outcome (resat t d) (said (d .answer)) ≡ call t
+-- the same of a part that has no table: of any tables and any place
+abbrev pub SettlesAny : Session → (ℕ → List Session → List Session) → Answer → (Tables → ℕ → Outcome) → Type 0
+SettlesAny x settled a call =
+    (n : ℕ) (t : Tables) → OpenIn t n x → outcome (beside t (settled n (t .sessions))) [] (said a) ≡ call t n

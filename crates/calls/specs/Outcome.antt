@@ -1,7 +1,8 @@
--- What a call comes to: the tables afterwards and the answer; refusals 1 and 2, then the rules' own.
+-- What a call comes to: the tables, the further lent buffers and the answer; refusals 1 and 2, then the rules' own.
 -- Assumes nothing.
 use mathlib.Core.Bool.{cond}
 use mathlib.Core.Option.{Option, none, some}
+use mathlib.Core.List.{List}
 use Prim.Native.Nat.{ℕ}
 use Rattle.rules.specs.Calls.{Call}
 use Rattle.rules.specs.Refusals.{refusal}
@@ -11,12 +12,15 @@ use Rattle.tables.specs.Damage.{sound}
 use Rattle.tables.specs.Meaning.{meaning}
 use Rattle.calls.specs.Said.{Said, no}
 
+-- every lent cell afterwards, and the answer; the buffers are what is lent beside the tables to be written, in the order of lending:
+-- none, or query's scratch
 pub record Outcome : Type 0 where
   pub after : Tables
+  pub buffers : List (List ℕ)
   pub answer : Said
 
-abbrev pub outcome : Tables → Said → Outcome
-outcome t a = record { after = t; answer = a }
+abbrev pub outcome : Tables → List (List ℕ) → Said → Outcome
+outcome t bs a = record { after = t; buffers = bs; answer = a }
 
 -- the number that a call on lent tables is refused by: 1, 2, or the rules' own at what the tables mean
 unfoldable pub refusalAt : Tables → Call → Option ℕ
@@ -26,7 +30,7 @@ refusalAt t c = cond (roomy t) (cond (sound t) (refusal (meaning t) c) (some 2))
 unfoldable pub refusalOfCreate : Tables → Call → Option ℕ
 refusalOfCreate t c = cond (roomy t) (refusal (meaning t) c) (some 1)
 
--- "A refusal answers the number and nothing more; no table .. or session cell changes."
-unfoldable pub unless : Option ℕ → Tables → Outcome → Outcome
-unless (some n) t o = outcome t (no n)
-unless none t o = o
+-- "A refusal answers the number and nothing more; no table, scratch or session cell changes."
+unfoldable pub unless : Option ℕ → Tables → List (List ℕ) → Outcome → Outcome
+unless (some n) t bs o = outcome t bs (no n)
+unless none t bs o = o

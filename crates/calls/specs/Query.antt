@@ -2,7 +2,7 @@
 -- Assumes nothing.
 use mathlib.Core.Bool.{Bool, false, cond, _&&_}
 use mathlib.Core.Option.{Option, none, some}
-use mathlib.Core.List.{List, []}
+use mathlib.Core.List.{List, [], _∷_}
 use Prim.Native.Nat.{ℕ, _+_, _*_}
 use lib.Dec.{eqb, leb, ltb}
 use lib.ListN.{length, take, drop}
@@ -14,17 +14,8 @@ use Rattle.rules.specs.Calls.{query}
 use Rattle.tables.specs.Cells.{Tables}
 use Rattle.tables.specs.Meaning.{meaning}
 use Rattle.history.specs.Version.{slotSeen}
-use Rattle.calls.specs.Said.{Said, no, words}
-use Rattle.calls.specs.Outcome.{refusalAt}
-
--- the tables, the scratch and the answer
-pub record QueryOutcome : Type 0 where
-  pub after : Tables
-  pub scratch : List ℕ
-  pub answer : Said
-
-abbrev pub queryOutcome : Tables → List ℕ → Said → QueryOutcome
-queryOutcome t s a = record { after = t; scratch = s; answer = a }
+use Rattle.calls.specs.Said.{words}
+use Rattle.calls.specs.Outcome.{Outcome, outcome, refusalAt, unless}
 
 -- the rules' query at the start s of a session, and its flip count
 abbrev pub rowsSeen : Tables → ℕ → ℕ → ℕ → Bool
@@ -35,19 +26,16 @@ flipsSeen t s v = flipCount (meaning t .log) (chain (meaning t .chains) v) s v
 
 -- "If it is 0, the answer is that version's own words, otherwise the scratch's first 32 words, which become the copy with those
 -- bits flipped. Other scratch words, and all of them when the count is 0, stay."
-unfoldable pub asked : Tables → List ℕ → ℕ → ℕ → ℕ → QueryOutcome
+unfoldable pub asked : Tables → List ℕ → ℕ → ℕ → ℕ → Outcome
 asked t scratch s v threshold =
     let n = flipsSeen t s v in
-    cond (eqb n 0) (queryOutcome t scratch (words 0 false (some (slotSeen (t .slots) (t .heads) s v))))
-    (queryOutcome t (over (vec (rowsSeen t s v) 32) scratch) (words n (ltb threshold n) none))
+    cond (eqb n 0) (outcome t (scratch ∷ []) (words 0 false (some (slotSeen (t .slots) (t .heads) s v))))
+    (outcome t (over (vec (rowsSeen t s v) 32) scratch ∷ []) (words n (ltb threshold n) none))
 
-unfoldable pub unlessAsked : Option ℕ → Tables → List ℕ → QueryOutcome → QueryOutcome
-unlessAsked (some n) t scratch o = queryOutcome t scratch (no n)
-unlessAsked none t scratch o = o
-
-unfoldable pub queryOf : Tables → List ℕ → ℕ → ℕ → ℕ → QueryOutcome
+unfoldable pub queryOf : Tables → List ℕ → ℕ → ℕ → ℕ → Outcome
 queryOf t scratch n v threshold =
-    unlessAsked (refusalAt t (query n v threshold (length scratch))) t scratch (asked t scratch (startOf (session (meaning t) n)) v threshold)
+    unless (refusalAt t (query n v threshold (length scratch))) t (scratch ∷ [])
+    (asked t scratch (startOf (session (meaning t) n)) v threshold)
 
 -- the part that the picker returns: a slot's 32 words, or the scratch's first 32; an empty part where they were not lent
 unfoldable pub pickedFrom : List ℕ → List ℕ → Option ℕ → List ℕ

@@ -28,6 +28,6 @@ placeOf Scratch = none
 abbrev pub said : Answer → Said
 said (No why) = no (numberOf why)
 said (Count n) = numbers (n ∷ [])
-said (At s n) = numbers (s .0 ∷ n ∷ [])
+said (At s n) = numbers (s .0 ∷ n .0 ∷ [])
 said (Read x) = value (standingOf x)
 said (Listed n d p) = words n d (placeOf p)

@@ -1,10 +1,11 @@
-// What a call answers, and what it comes to. Assumes nothing.
+// What a call answers, and what it comes to for the session table.
 use history::Standing;
 use tables::Refusal;
+use tables::Row;
 use tables::Session;
 use tables::Stamp;
 ghost use mathlib.Core.Path.{_≡_};
-ghost use Rattle.calls.specs.Seats.{plainly, refusing, placeFor, seating};
+ghost use Rattle.calls.specs.Seats.{opens, opensNone, relists, relistsNone, frees, freesNone};
 
 // Where a query's words stand: a slot's own, or the scratch's first 32.
 pub enum Place {
@@ -18,53 +19,94 @@ pub enum Place {
 pub enum Answer {
     No(Refusal),
     Count(u32),
-    At(Stamp, u32),
+    At(Stamp, Row),
     Read(Standing),
     Listed(u32, bool, Place),
 }
 
-// What a call comes to: its answer, and the session that then stands at a place (16: none changes).
-pub struct Done {
+// What begin comes to: its answer, and whether the session is opened, at this start and row count.
+pub struct Begun {
     pub answer: Answer,
-    pub place: usize,
+    pub yes: bool,
+    pub start: Stamp,
+    pub rows: Row,
+}
+
+// What update, delete and insert come to: the answer, and whether the session is put back, with this list.
+pub struct Relisted {
+    pub answer: Answer,
+    pub yes: bool,
     pub session: Session,
 }
 
-// A call that changes no session.
-pub fn answered(answer: Answer) -> Done
-    ensures { λ r. ⌜ r ≡ plainly answer ⌝ }
+// What commit, abort and create come to: the answer, and whether the session, or every one, is freed.
+pub struct Freed {
+    pub answer: Answer,
+    pub yes: bool,
+}
+
+// The session is opened.
+pub fn opened_at(start: Stamp, rows: Row) -> Begun
+    ensures { λ r. ⌜ r ≡ opens start rows ⌝ }
 {
-    Done {
+    Begun {
+        answer: Answer::At(start, rows),
+        yes: true,
+        start: start,
+        rows: rows,
+    }
+}
+
+// No session is opened.
+pub fn none_opened(answer: Answer) -> Begun
+    ensures { λ r. ⌜ r ≡ opensNone answer ⌝ }
+{
+    Begun {
         answer: answer,
-        place: 16,
+        yes: false,
+        start: Stamp(0),
+        rows: Row(0),
+    }
+}
+
+// The session is put back with another list, whose length is the answer.
+pub fn put_back(session: Session) -> Relisted
+    ensures { λ r. ⌜ r ≡ relists session ⌝ }
+{
+    Relisted {
+        answer: Answer::Count(session.count),
+        yes: true,
+        session: session,
+    }
+}
+
+// The list stays as it is.
+pub fn not_put_back(why: Refusal) -> Relisted
+    ensures { λ r. ⌜ r ≡ relistsNone why ⌝ }
+{
+    Relisted {
+        answer: Answer::No(why),
+        yes: false,
         session: tables::free_session(),
     }
 }
 
-// A call that refuses.
-pub fn refused(why: Refusal) -> Done
-    ensures { λ r. ⌜ r ≡ refusing why ⌝ }
+// The session, or every one, is freed.
+pub fn made_free(answer: Answer) -> Freed
+    ensures { λ r. ⌜ r ≡ frees answer ⌝ }
 {
-    answered(Answer::No(why))
-}
-
-// The place that a session number means; 16 where it is past the table.
-pub fn place_of(n: u64) -> usize
-    ensures { λ r. ⌜ r ≡ placeFor n ⌝ }
-{
-    if 15 < n {
-        return 16;
-    }
-    n as usize
-}
-
-// A call after which session n is another.
-pub fn seated(answer: Answer, n: u64, session: Session) -> Done
-    ensures { λ r. ⌜ r ≡ seating answer n session ⌝ }
-{
-    Done {
+    Freed {
         answer: answer,
-        place: place_of(n),
-        session: session,
+        yes: true,
+    }
+}
+
+// No session is freed.
+pub fn none_freed(why: Refusal) -> Freed
+    ensures { λ r. ⌜ r ≡ freesNone why ⌝ }
+{
+    Freed {
+        answer: Answer::No(why),
+        yes: false,
     }
 }

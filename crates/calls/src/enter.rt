@@ -1,8 +1,9 @@
-// The refusals that the calls share: 1, 2, 4, 5 and 6. Assumes nothing.
+// The refusals that the calls share: 1, 2, 4, 5 and 6.
 use lent::Seat;
 use tables::Refusal;
 use tables::Row;
 use tables::Stamp;
+use tables::Value;
 ghost use mathlib.Core.Path.{_≡_};
 ghost use Rattle.calls.specs.Enter.{whyOf, placedBy, inReach, openedBy, valuedBy};
 
@@ -45,7 +46,7 @@ pub fn placed(
 fn in_reach(stamp: Stamp, start: Stamp, rows: Row, count: u32) -> bool
     ensures { λ r. ⌜ r ≡ inReach (stamp .0) (start .0) (rows .0) count ⌝ }
 {
-    (start.0 <= stamp.0) & (rows.0 <= 2048) & (count <= 32)
+    (start.0 <= stamp.0) & (rows.0 <= tables::MAX_ROWS) & (count <= tables::MAX_ENTRIES)
 }
 
 // The same, and 5: the session is open. A session that no undamaged tables have is damage: a seat that was made of the tables
@@ -100,9 +101,9 @@ pub fn valued(
     changes: &[u32],
     seat: Seat,
     n: u64,
-    v: u64,
+    v: Value,
 ) -> Test
-    ensures { λ r. ⌜ whyOf r ≡ valuedBy (now (clock .entry)) (now (slots .entry)) (now (words .entry)) (now (heads .entry)) (now (log .entry)) (now (changes .entry)) seat n v ⌝ }
+    ensures { λ r. ⌜ whyOf r ≡ valuedBy (now (clock .entry)) (now (slots .entry)) (now (words .entry)) (now (heads .entry)) (now (log .entry)) (now (changes .entry)) seat n (v .0) ⌝ }
 {
     let test = opened(clock, slots, words, heads, log, changes, seat, n);
     let Test::Passed = test else {
@@ -110,7 +111,7 @@ pub fn valued(
     };
     let c = tables::clock_of(clock);
     let values = c.values;
-    if (values.0 as u64) <= v {
+    if values.0 <= v.0 {
         return Test::No(Refusal::NoValue);
     }
     Test::Passed

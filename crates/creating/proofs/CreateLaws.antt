@@ -2,41 +2,44 @@
 -- Assumes nothing.
 use mathlib.Core.Path.{_≡_, refl, sym, ap, ap₂, _∙_}
 use mathlib.Core.Bool.{Bool, true, false, not, cond, _&&_, _||_}
-use mathlib.Core.Option.{Option, none, some}
-use mathlib.Core.List.{List, [], _∷_, _++_, map}
-use mathlib.Core.Logic.{_⊎_, inl, inr, ⊎-elim}
+use mathlib.Core.Option.{none, some}
+use mathlib.Core.List.{List, [], _∷_, _++_}
+use mathlib.Core.Logic.{_⊎_, inl, inr}
 use Prim.Native.Nat.{ℕ, _+_, _-_, _≤_, _<_}
 use native.Mathlib.Omega.{arith}
-use native.Mathlib.Numerals.{add-one}
 use borrow.Author.Tests.{eq-eqb, ne-eqb, le-leb, lt-leb, lt-ltb, le-ltb, ltb-false, not-true, not-false}
 use lib.Dec.{eqb, leb, ltb}
-use lib.ListN.{length, getD, take, drop, set, replicate, length-map, length-replicate, getD-replicate, length-append, length-drop, List·getD-append}
-use lib.Seq.{sets, sets-eq, length-take-le, take-all, ext-getD, getD-append-add, getD-drop}
+use lib.ListN.{length, getD, take, drop, set, replicate, length-map, length-replicate, getD-replicate, List·getD-append}
+use lib.Seq.{sets-eq, length-take-le, take-all, ext-getD, getD-append-add, getD-drop}
 use Rattle.bits.specs.Cases.{lt-cases, eq-cases}
-use Rattle.bits.specs.Tab.{tab, over, length-tab, getD-tab, tab-ext, length-over, Filled, filled-more}
+use Rattle.bits.specs.Tab.{tab, over, length-tab, getD-tab, length-over, Filled, filled-more}
 use Rattle.bits.specs.Vec.{vec, length-vec, bitAt-vec, vec-ext}
 use Rattle.bits.specs.Words.{bitAt}
 use Rattle.bits.specs.Column.{columnBit, valueOf}
 use Rattle.rules.specs.Limits.{maxValues, maxRows}
-use Rattle.rules.specs.Calls.{create}
 use Rattle.rules.specs.Refusals.{outside, someOutside, badColumn, tests}
 use Rattle.rules.proofs.Small.{or-parts}
 use Rattle.rules.proofs.Shapes.{someOf, some-passed}
 use Rattle.tables.specs.declared.session.Session.{Session}
+use Rattle.tables.specs.declared.counts.Value.{Value}
+use Rattle.tables.specs.declared.refusal.Refusal.{Refusal}
 use Rattle.tables.specs.declared.refusal.Refusal.the-variants.{NoRoom, BadColumn}
 use Rattle.tables.specs.Cells.{Tables, tables}
 use Rattle.tables.specs.Stores.{putClock}
 use Rattle.tables.specs.Refusals.{numberOf}
-use Rattle.damage.specs.Room.{roomFor, Roomy}
+use Rattle.damage.specs.Room.{roomFor}
 use Rattle.damage.proofs.RoomLaws.{room-is, room-lengths}
-use Rattle.lent.specs.Places.{freedAll}
+use Rattle.lent.specs.Places.{allFreed}
 use Rattle.calls.specs.declared.answers.Answer.{Answer}
-use Rattle.calls.specs.declared.answers.Answer.the-variants.{No, Count}
+use Rattle.calls.specs.declared.answers.Answer.the-variants.{Count}
+use Rattle.calls.specs.declared.answers.Freed.{Freed}
 use Rattle.calls.specs.Said.{said, numbers, no}
-use Rattle.calls.specs.Outcome.{Outcome, outcome, refusalOfCreate, unless}
+use Rattle.calls.specs.Outcome.{outcome, refusalOfCreate, unless}
 use Rattle.calls.specs.Calls.{below, columnOf, createdTables, createOf}
 use Rattle.creating.specs.Create.{Creatable, Created}
-use Rattle.calls.specs.Seats.{Creates, accepted}
+use Rattle.calls.specs.Seats.{frees, freesNone, freeingAll, Creates}
+use Rattle.calls.specs.Narrow.{narrowed}
+use Rattle.calls.proofs.NarrowLaws.{narrow-cases}
 
 -- ---- the column's test
 
@@ -99,10 +102,12 @@ module _ (C : ℕ) (col : List ℕ) where
   unfolding badColumn maxValues maxRows
   bad-long n h l = rw (ne-eqb C 0 n, le-ltb 32 C h, length-map col valueOf, lt-ltb 2048 (length col) l)
 
-  pub bad-bytes : (C ≡ 0 → ⊥) → C ≤ 32 → length col ≤ 2048 → (ok : Bool) → ok ≡ not (someOutside C (columnOf col)) → not ok ≡ badColumn C (columnOf col)
+  pub bad-bytes : (C ≡ 0 → ⊥) → C ≤ 32 → length col ≤ 2048 → (ok : Bool) → ok ≡ not (someOutside C (columnOf col))
+      → not ok ≡ badColumn C (columnOf col)
   unfolding badColumn maxValues maxRows
   bad-bytes n h l ok e =
-      ap not e ∙ not-not (someOutside C (columnOf col)) ∙ rw (ne-eqb C 0 n, le-ltb 32 C h, length-map col valueOf, le-ltb 2048 (length col) l)
+      ap not e ∙ not-not (someOutside C (columnOf col))
+      ∙ rw (ne-eqb C 0 n, le-ltb 32 C h, length-map col valueOf, le-ltb 2048 (length col) l)
     where
       not-not : (b : Bool) → not (not b) ≡ b
       not-not true = refl
@@ -117,6 +122,22 @@ module _ (C : ℕ) (col : List ℕ) where
       let q = or-parts (eqb C 0 || ltb 32 C) (ltb 2048 n) (p .0) in
       let r = or-parts (eqb C 0) (ltb 32 C) (q .0) in
       (ltb-false 32 C (r .1), omega (arith, ltb-false 2048 n (q .1), length-map col valueOf))
+
+-- a caller's C and the value that it is narrowed to are refused alike, and are one number where they are not refused
+bad-narrowed : (C : ℕ) (col : List ℕ) → badColumn (narrowed C) (columnOf col) ≡ badColumn C (columnOf col)
+bad-narrowed C col = go (narrow-cases C)
+  where
+    go : (narrowed C ≡ C) ⊎ ((2048 ≤ narrowed C) × (2048 ≤ C)) → badColumn (narrowed C) (columnOf col) ≡ badColumn C (columnOf col)
+    go (inl e) = ap (λ (m : ℕ). badColumn m (columnOf col)) e
+    go (inr h) =
+        sym (bad-many (narrowed C) col (λ z. absurd (omega arith)) (omega arith)) ∙ bad-many C col (λ z. absurd (omega arith)) (omega arith)
+
+narrowed-low : (C : ℕ) → narrowed C ≤ 32 → narrowed C ≡ C
+narrowed-low C l = go (narrow-cases C)
+  where
+    go : (narrowed C ≡ C) ⊎ ((2048 ≤ narrowed C) × (2048 ≤ C)) → narrowed C ≡ C
+    go (inl e) = e
+    go (inr h) = absurd (omega arith)
 
 -- ---- cells
 
@@ -225,31 +246,45 @@ module _ (clock slots words heads log changes : List ℕ) where
     abbrev before : List Session → Tables
     before = tables clock slots words heads log changes
 
+    refused-left : (ts : List Session) (d : Freed) (why : Refusal) → d ≡ freesNone why
+        → outcome (before (freeingAll d ts)) [] (said (d .answer)) ≡ outcome (before ts) [] (no (numberOf why))
+    unfolding freesNone allFreed
+    refused-left ts d why k = ap (λ (y : Freed). outcome (before (freeingAll y ts)) [] (said (y .answer))) k
+
     -- "1": and nothing changes
-    pub create-no-room : (r : Bool) → r ≡ roomFor clock slots words heads log changes places → not r ≡ true
-        → Creates before before (λ t. createOf t c col) places (No NoRoom)
+    pub create-no-room : (r : Bool) (d : Freed) → r ≡ roomFor clock slots words heads log changes places → not r ≡ true
+        → d ≡ freesNone NoRoom → Creates before before places d (λ t. createOf t c col)
     unfolding createOf refusalOfCreate unless
-    create-no-room r e h = λ ts q. rw (sym (room-is (before ts) places q), sym e, not-true r h)
+    create-no-room r d e h k = λ ts q. refused-left ts d NoRoom k ∙ rw (sym (room-is (before ts) places q), sym e, not-true r h)
 
     -- "3": and nothing changes
-    module _ (r : Bool) (e : r ≡ roomFor clock slots words heads log changes places) (h : not r ≡ false) where
+    module _ (r : Bool) (e : r ≡ roomFor clock slots words heads log changes places) (h : not r ≡ false) (v : Value)
+        (is : v .0 ≡ narrowed c) (b : Bool) (p : b ≡ badColumn (v .0) (columnOf col)) where
       roomy-is : roomFor clock slots words heads log changes places ≡ true
       roomy-is = sym e ∙ not-false r h
 
-      pub create-refused : (b : Bool) → b ≡ badColumn c (columnOf col) → b ≡ true → Creates before before (λ t. createOf t c col) places (No BadColumn)
-      unfolding createOf refusalOfCreate unless tests
-      create-refused b p k = λ ts q. rw (sym (room-is (before ts) places q), roomy-is, sym p, k)
+      judged : badColumn c (columnOf col) ≡ b
+      judged = sym (p ∙ ap (λ (m : ℕ). badColumn m (columnOf col)) is ∙ bad-narrowed c col)
 
-      module _ (b : Bool) (p : b ≡ badColumn c (columnOf col)) (k : b ≡ false) where
+      pub create-refused : (d : Freed) → b ≡ true → d ≡ freesNone BadColumn → Creates before before places d (λ t. createOf t c col)
+      unfolding createOf refusalOfCreate unless tests
+      create-refused d m k = λ ts q. refused-left ts d BadColumn k ∙ rw (sym (room-is (before ts) places q), roomy-is, judged, m)
+
+      module _ (m : b ≡ false) where
         -- what the work needs
-        pub creatable : Creatable clock slots words heads log changes c col
+        pub creatable : Creatable clock slots words heads log changes (v .0) col
         creatable =
-            let g = good-column c col (sym p ∙ k) in
+            let g = good-column (v .0) col (sym p ∙ m) in
             record { room = room-lengths clock slots words heads log changes places roomy-is; few-values = g .0; few-rows = g .1 }
 
-        pub values-fit : c < 4294967296
-        values-fit = omega (arith, creatable .few-values)
+        value-is : v .0 ≡ c
+        value-is = is ∙ narrowed-low c (omega (arith, is, creatable .few-values))
 
-        pub create-done : (after : List Session → Tables) (a : Answer) → Created before after c col a → Creates before after (λ t. createOf t c col) places a
-        unfolding createOf refusalOfCreate unless tests
-        create-done after a f = λ ts q. rw (f .answers, f .made ts, sym (room-is (before ts) places q), roomy-is, sym p, k)
+        pub create-done : (after : List Session → Tables) (a : Answer) (d : Freed) → Created before after (v .0) col a → d ≡ frees a
+            → Creates before after places d (λ t. createOf t c col)
+        unfolding createOf refusalOfCreate unless tests frees allFreed
+        create-done after a d f k = λ ts q.
+            ap (λ (y : Freed). outcome (after (freeingAll y ts)) [] (said (y .answer))) k
+            ∙ ap₂ (λ (u : Tables) (x : Answer). outcome u [] (said x)) (f .made ts) (f .answers)
+            ∙ ap (λ (w : ℕ). outcome (createdTables (before ts) w col) [] (numbers (length col ∷ []))) value-is
+            ∙ rw (sym (room-is (before ts) places q), roomy-is, judged, m)

@@ -1,12 +1,13 @@
 // Create. Assumes nothing.
 use calls::Answer;
+use calls::Freed;
 use tables::Clock;
 use tables::Refusal;
 use tables::Row;
 use tables::Stamp;
 use tables::Value;
 ghost use mathlib.Core.Path.{_≡_};
-ghost use mathlib.Core.Bool.{not, false};
+ghost use mathlib.Core.Bool.{not};
 ghost use Prim.Native.Nat.{_≤_};
 ghost use lib.ListN.{length, replicate};
 ghost use Rattle.bits.specs.Tab.{tab, over};
@@ -18,10 +19,12 @@ ghost use Rattle.calls.specs.Calls.{below, columnOf, createOf};
 ghost use Rattle.creating.specs.Create.{Creatable, Created};
 ghost use Rattle.calls.specs.Seats.{Creates};
 
-// Whether each byte of a column is below c or 255.
-fn column_known(column: &[u8], c: u8) -> bool
-    ensures { λ r. ⌜ r ≡ not (someOutside c (columnOf (now (column .entry)))) ⌝ }
+// Whether each byte of a column is below C or 255.
+fn column_known(column: &[u8], values: Value) -> bool
+    requires { ⌜ values .0 ≤ 32 ⌝ }
+    ensures { λ r. ⌜ r ≡ not (someOutside (values .0) (columnOf (now (column .entry)))) ⌝ }
 {
+    let c = values.0 as u8;
     let n = column.len();
     let mut ok = true;
     let mut r: usize = 0;
@@ -34,19 +37,19 @@ fn column_known(column: &[u8], c: u8) -> bool
 }
 
 // 3: whether C or the column is refused.
-fn column_refused(c: u64, column: &[u8]) -> bool
-    ensures { λ r. ⌜ r ≡ badColumn c (columnOf (now (column .entry))) ⌝ }
+fn column_refused(values: Value, column: &[u8]) -> bool
+    ensures { λ r. ⌜ r ≡ badColumn (values .0) (columnOf (now (column .entry))) ⌝ }
 {
-    if c == 0 {
+    if values.0 == 0 {
         return true;
     }
-    if 32 < c {
+    if tables::MAX_VALUES < values.0 {
         return true;
     }
-    if 2048 < column.len() {
+    if (tables::MAX_ROWS as usize) < column.len() {
         return true;
     }
-    !column_known(column, c as u8)
+    !column_known(column, values)
 }
 
 // The first n cells become 0.
@@ -61,26 +64,27 @@ fn zero_cells(cells: &mut [u32], n: usize)
     }
 }
 
-// The first c cells become their own numbers.
-fn number_cells(cells: &mut [u32], c: u32)
-    requires { ⌜ c ≤ length (now cells) ⌝ }
-    ensures { λ _. ⌜ now (cells .exit) ≡ over (tab (λ i. i) c) (now (cells .entry)) ⌝ }
+// The first cells, one for each value, become their own numbers.
+fn number_cells(cells: &mut [u32], values: Value)
+    requires { ⌜ values .0 ≤ length (now cells) ⌝ }
+    ensures { λ _. ⌜ now (cells .exit) ≡ over (tab (λ i. i) (values .0)) (now (cells .entry)) ⌝ }
 {
-    let mut v: u32 = 0;
-    while v < c {
-        let i = bits::wide(v);
-        cells[i] = v;
-        v += 1;
+    let c = values.0;
+    let mut k: u32 = 0;
+    while k < c {
+        let i = bits::wide(k);
+        cells[i] = k;
+        k += 1;
     }
 }
 
-// The first n cells: c of them become their own numbers, the others 0.
-fn numbered(cells: &mut [u32], n: usize, c: u32)
-    requires { ⌜ (c ≤ n) × (n ≤ length (now cells)) ⌝ }
-    ensures { λ _. ⌜ now (cells .exit) ≡ over (tab (below c) n) (now (cells .entry)) ⌝ }
+// The first n cells: one for each value becomes its own number, the others 0.
+fn numbered(cells: &mut [u32], n: usize, values: Value)
+    requires { ⌜ (values .0 ≤ n) × (n ≤ length (now cells)) ⌝ }
+    ensures { λ _. ⌜ now (cells .exit) ≡ over (tab (below (values .0)) n) (now (cells .entry)) ⌝ }
 {
     zero_cells(cells, n);
-    number_cells(cells, c);
+    number_cells(cells, values);
 }
 
 // The vectors of a column, and of every other slot none.
@@ -100,29 +104,29 @@ fn create_work(
     heads: &mut [u32],
     log: &mut [u32],
     changes: &mut [u32],
-    values: u32,
+    values: Value,
     column: &[u8],
 ) -> Answer
-    requires { ⌜ Creatable (now clock) (now slots) (now words) (now heads) (now log) (now changes) values (now column) ⌝ }
-    ensures { λ r. ⌜ Created (tables (now (clock .entry)) (now (slots .entry)) (now (words .entry)) (now (heads .entry)) (now (log .entry)) (now (changes .entry))) (tables (now (clock .exit)) (now (slots .exit)) (now (words .exit)) (now (heads .exit)) (now (log .exit)) (now (changes .exit))) values (now (column .entry)) r ⌝ }
+    requires { ⌜ Creatable (now clock) (now slots) (now words) (now heads) (now log) (now changes) (values .0) (now column) ⌝ }
+    ensures { λ r. ⌜ Created (tables (now (clock .entry)) (now (slots .entry)) (now (words .entry)) (now (heads .entry)) (now (log .entry)) (now (changes .entry))) (tables (now (clock .exit)) (now (slots .exit)) (now (words .exit)) (now (heads .exit)) (now (log .exit)) (now (changes .exit))) (values .0) (now (column .entry)) r ⌝ }
 {
-    let rows = bits::narrow(column.len());
-    numbered(slots, 288, values);
-    numbered(heads, 32, values);
-    zero_cells(log, 2048);
-    zero_cells(changes, 4096);
-    write_columns(&mut words[..3072], column);
+    let rows = Row(bits::narrow(column.len()));
+    numbered(slots, tables::SLOT_CELLS, values);
+    numbered(heads, tables::HEAD_CELLS, values);
+    zero_cells(log, tables::LOG_CELLS);
+    zero_cells(changes, tables::CHANGE_CELLS);
+    write_columns(&mut words[..tables::SLOT_WORDS], column);
     let made = Clock {
-        values: Value(values),
-        first: Row(rows),
+        values: values,
+        first: rows,
         stamp: Stamp(0),
-        rows: Row(rows),
+        rows: rows,
     };
-    tables::put_clock(clock, made, values, 0);
-    Answer::Count(rows)
+    tables::put_clock(clock, made, values.0, 0);
+    Answer::Count(rows.0)
 }
 
-// Create over the number tables: the answer. The sessions are freed by the caller where it is no refusal.
+// Create.
 pub fn create_in(
     clock: &mut [u32],
     slots: &mut [u32],
@@ -133,14 +137,16 @@ pub fn create_in(
     places: usize,
     c: u64,
     column: &[u8],
-) -> Answer
-    ensures { λ r. ⌜ Creates (tables (now (clock .entry)) (now (slots .entry)) (now (words .entry)) (now (heads .entry)) (now (log .entry)) (now (changes .entry))) (tables (now (clock .exit)) (now (slots .exit)) (now (words .exit)) (now (heads .exit)) (now (log .exit)) (now (changes .exit))) (λ t. createOf t c (now (column .entry))) places r ⌝ }
+) -> Freed
+    ensures { λ r. ⌜ Creates (tables (now (clock .entry)) (now (slots .entry)) (now (words .entry)) (now (heads .entry)) (now (log .entry)) (now (changes .entry))) (tables (now (clock .exit)) (now (slots .exit)) (now (words .exit)) (now (heads .exit)) (now (log .exit)) (now (changes .exit))) places r (λ t. createOf t c (now (column .entry))) ⌝ }
 {
     if !damage::room(clock, slots, words, heads, log, changes, places) {
-        return Answer::No(Refusal::NoRoom);
+        return calls::none_freed(Refusal::NoRoom);
     }
-    if column_refused(c, column) {
-        return Answer::No(Refusal::BadColumn);
+    let values = calls::value_of(c);
+    if column_refused(values, column) {
+        return calls::none_freed(Refusal::BadColumn);
     }
-    create_work(clock, slots, words, heads, log, changes, c as u32, column)
+    let answer = create_work(clock, slots, words, heads, log, changes, values, column);
+    calls::made_free(answer)
 }

@@ -28,17 +28,18 @@ use Rattle.history.specs.Read.{standingOf, readCells}
 use Rattle.history.proofs.Meets.{read-meets}
 use Rattle.history.proofs.Ready.{read-ready}
 use Rattle.lent.specs.declared.seats.Seat.{Seat}
-use Rattle.calls.specs.declared.answers.Done.{Done}
+use Rattle.calls.specs.declared.answers.Answer.the-variants as answer
+use Rattle.calls.specs.declared.answers.Relisted.{Relisted}
 use Rattle.calls.specs.declared.enter.Test.the-variants.{Passed, No}
 use Rattle.calls.specs.Outcome.{Outcome, unless}
 use Rattle.calls.specs.Calls.{own, spotOf, listedAt, relisted, updateOf, deleteOf, insertOf}
-use Rattle.calls.specs.Seats.{seatOf, refusing, Serves}
+use Rattle.calls.specs.Seats.{seatOf, relistsNone, relisting, Serves}
 use Rattle.calls.specs.Enter.{whyOf, openedBy, valuedBy}
-use Rattle.calls.specs.Opened.{Usable, OpenIn, Settles, SettlesAny}
-use Rattle.listing.specs.Change.{appendOf, targetPut, changeOf, Stands}
+use Rattle.calls.specs.Opened.{Usable, OpenIn, SettlesAny}
+use Rattle.listing.specs.Change.{appendOf, targetPut, changeOf, ChangesRow, Stands}
 use Rattle.calls.specs.declared.enter.Test as asked
-use Rattle.calls.proofs.Entered.{bare, opened-passed, opened-goes, opened-shows, valued-passed, valued-goes, valued-shows}
-use Rattle.calls.proofs.Serving.{refusing-resat, opened-refused, valued-refused}
+use Rattle.calls.proofs.Entered.{bare, opened-goes, opened-shows, valued-passed, valued-goes, valued-shows}
+use Rattle.calls.proofs.Serving.{idle-relisting, idle-left, opened-refused, valued-refused}
 use Rattle.calls.proofs.OpenLaws.{open-start, open-rows, open-list, open-facts}
 use Rattle.listing.proofs.ChangeLaws.{refuses}
 
@@ -48,13 +49,13 @@ module _ (clock slots words heads log changes : List ℕ) where
 
   -- ---- 7 and 8, then the list
 
-  module _ (x : cells.Session) (n row to : ℕ) where
+  module _ (x : cells.Session) (row to : ℕ) where
     -- the tests that are left, of the session that the rules see
-    abbrev left : Tables → List Test
-    left t = noRow (session (meaning t) n) row ∷ rowAbsent (meaning t) (session (meaning t) n) row ∷ listFullFor (session (meaning t) n) row ∷ []
+    abbrev left : ℕ → Tables → List Test
+    left n t = noRow (session (meaning t) n) row ∷ rowAbsent (meaning t) (session (meaning t) n) row ∷ listFullFor (session (meaning t) n) row ∷ []
 
-    abbrev put : Tables → Outcome
-    put t = relisted t n (listedAt (own t n) (spotOf (own t n) row) row to)
+    abbrev put : ℕ → Tables → Outcome
+    put n t = relisted t n (listedAt (own t n) (spotOf (own t n) row) row to)
 
     abbrev stands : Option ℕ
     stands = standing (target (entries x) row) (readCells slots words heads log changes (valuesIn clock) (x .start .0) row)
@@ -71,58 +72,65 @@ module _ (clock slots words heads log changes : List ℕ) where
           spot-is = e;
         }
 
-    module _ (d : Done) where
-      pub change-no-row : x .rows .0 ≤ row → d ≡ refusing NoRow → Settles lent lent (λ t. changeOf t n row to) x n d
+    module _ (d : Relisted) where
+      abbrev Changes : Type 0
+      Changes = ChangesRow lent x row to d
+
+      pub change-no-row : x .rows .0 ≤ row → d ≡ relistsNone NoRow → Changes
       unfolding changeOf
-      change-no-row l e ts o =
+      change-no-row l e n ts o =
           let t = lent ts in
-          refusing-resat t d NoRow e
-          ∙ sym (refuses (left t) 7 t (put t)
+          idle-left t [] n (relisting d n) (d .answer) (answer.No NoRow) (idle-relisting d n NoRow e)
+          ∙ sym (refuses (left n t) 7 t (put n t)
           (ap (λ (m : ℕ). cond (leb m row) (some 7) (firstOf (rowAbsent (meaning t) (session (meaning t) n) row ∷ listFullFor (session (meaning t) n) row ∷ []))) (open-rows t n x o)
           ∙ ap (λ (b : Bool). cond b (some 7) (firstOf (rowAbsent (meaning t) (session (meaning t) n) row ∷ listFullFor (session (meaning t) n) row ∷ []))) (le-leb (x .rows .0) row l)))
 
       module _ (l : row < x .rows .0) (held : Standing) (h : standingOf held ≡ stands) where
         -- 7 fails
-        has-row : (t : Tables) → OpenIn t n x → leb (rowsOf (session (meaning t) n)) row ≡ false
-        has-row t o = ap (λ (m : ℕ). leb m row) (open-rows t n x o) ∙ lt-leb (x .rows .0) row l
+        has-row : (n : ℕ) (t : Tables) → OpenIn t n x → leb (rowsOf (session (meaning t) n)) row ≡ false
+        has-row n t o = ap (λ (m : ℕ). leb m row) (open-rows t n x o) ∙ lt-leb (x .rows .0) row l
 
         -- 8 is judged alike
-        judged : (ts : List cells.Session) → OpenIn (lent ts) n x → standingIn (meaning (lent ts)) (session (meaning (lent ts)) n) row ≡ standingOf held
-        judged ts o =
+        judged : (n : ℕ) (ts : List cells.Session) → OpenIn (lent ts) n x → standingIn (meaning (lent ts)) (session (meaning (lent ts)) n) row ≡ standingOf held
+        judged n ts o =
             let t = lent ts in
             let st = meaning t in
             ap₂ (λ (es : List Entry) (s : ℕ). standing (target es row) (readAt (st .values) (st .log) (st .chains) s row)) (open-list t n x o) (open-start t n x o)
             ∙ ap (standing (target (entries x) row)) (sym (read-meets t (o .good) (x .start .0) (open-facts t n x o .start-old) row)) ∙ sym h
 
-        pub change-absent : held ≡ Absent → d ≡ refusing RowAbsent → Settles lent lent (λ t. changeOf t n row to) x n d
+        pub change-absent : held ≡ Absent → d ≡ relistsNone RowAbsent → Changes
         unfolding changeOf
-        change-absent a e ts o =
+        change-absent a e n ts o =
             let t = lent ts in
-            refusing-resat t d RowAbsent e
-            ∙ sym (refuses (left t) 8 t (put t)
-            (ap₂ (λ (b : Bool) (z : Option ℕ). cond b (some 7) (cond (isAbsent z) (some 8) (firstOf (listFullFor (session (meaning t) n) row ∷ [])))) (has-row t o)
-            (judged ts o ∙ ap standingOf a)))
+            idle-left t [] n (relisting d n) (d .answer) (answer.No RowAbsent) (idle-relisting d n RowAbsent e)
+            ∙ sym (refuses (left n t) 8 t (put n t)
+            (ap₂ (λ (b : Bool) (z : Option ℕ). cond b (some 7) (cond (isAbsent z) (some 8) (firstOf (listFullFor (session (meaning t) n) row ∷ [])))) (has-row n t o)
+            (judged n ts o ∙ ap standingOf a)))
 
-        pub change-on : (v : Value) → held ≡ Holds v → SettlesAny (λ t. targetPut t n row to) x n d → Settles lent lent (λ t. changeOf t n row to) x n d
+        pub change-on : (v : Value) → held ≡ Holds v → SettlesAny x (relisting d) (d .answer) (λ t m. targetPut t m row to) → Changes
         unfolding changeOf targetPut
-        change-on v a f ts o =
+        change-on v a f n ts o =
             let t = lent ts in
-            f t o
-            ∙ sym (ap₂ (λ (b : Bool) (z : Option ℕ). unless (cond b (some 7) (cond (isAbsent z) (some 8) (firstOf (listFullFor (session (meaning t) n) row ∷ [])))) t (put t)) (has-row t o)
-            (judged ts o ∙ ap standingOf a))
+            f n t o
+            ∙ sym (ap₂ (λ (b : Bool) (z : Option ℕ). unless (cond b (some 7) (cond (isAbsent z) (some 8) (firstOf (listFullFor (session (meaning t) n) row ∷ [])))) t [] (put n t)) (has-row n t o)
+            (judged n ts o ∙ ap standingOf a))
 
   -- ---- the cores: with 4, 5 and 6
 
   module _ (x : Seat) (n v : ℕ) (test : asked.Test) (q : whyOf test ≡ valuedBy clock slots words heads log changes x n v) where
-    pub update-refused : (row : ℕ) (why : Refusal) (d : Done) → test ≡ No why → d ≡ refusing why → Serves lent lent (λ t. updateOf t n row v) x n d
+    pub update-refused : (row : ℕ) (why : Refusal) (d : Relisted) → test ≡ No why → d ≡ relistsNone why
+        → Serves lent lent [] x n (relisting d n) (d .answer) (λ t. updateOf t n row v)
     unfolding updateOf tests
     update-refused row why d h k =
-        valued-refused clock slots words heads log changes x n (update n row v) (put (x .session) n row v) test why h d k (left (x .session) n row v) v (λ t. refl) q
+        valued-refused clock slots words heads log changes [] x n (update n row v) (put (x .session) row v n) test why h (relisting d n) (d .answer)
+        (idle-relisting d n why k) (left (x .session) row v n) v (λ t. refl) q
 
-    pub insert-refused : (why : Refusal) (d : Done) → test ≡ No why → d ≡ refusing why → Serves lent lent (λ t. insertOf t n v) x n d
+    pub insert-refused : (why : Refusal) (d : Relisted) → test ≡ No why → d ≡ relistsNone why
+        → Serves lent lent [] x n (relisting d n) (d .answer) (λ t. insertOf t n v)
     unfolding insertOf tests
     insert-refused why d h k =
-        valued-refused clock slots words heads log changes x n (insert n v) (λ t. relisted t n (listedAt (own t n) (own t n .count) 65535 v)) test why h d k
+        valued-refused clock slots words heads log changes [] x n (insert n v) (λ t. relisted t n (listedAt (own t n) (own t n .count) 65535 v)) test why h
+        (relisting d n) (d .answer) (idle-relisting d n why k)
         (λ t. listFull (session (meaning t) n) ∷ []) v (λ t. refl) q
 
     module _ (h : test ≡ Passed) where
@@ -145,42 +153,42 @@ module _ (clock slots words heads log changes : List ℕ) where
           let s = valued-shows t n x e (insert n v) rest test v refl q h in
           record { room = g .room; good = g .good; place-low = s .place-low; own-there = s .own-there; live-one = s .live-one }
 
-      pub update-on : (row : ℕ) (d : Done) → Settles lent lent (λ t. changeOf t n row v) (x .session) n d → Serves lent lent (λ t. updateOf t n row v) x n d
+      pub update-on : (row : ℕ) (d : Relisted) → ChangesRow lent (x .session) row v d
+          → Serves lent lent [] x n (relisting d n) (d .answer) (λ t. updateOf t n row v)
       unfolding updateOf changeOf tests
       update-on row d f ts e =
           let t = lent ts in
-          f ts (valued-open ts e)
-          ∙ ap (λ (w : Option ℕ). unless w t (put (x .session) n row v t))
-          (sym (valued-goes t n x e (update n row v) (left (x .session) n row v t) test v refl q h .rest-decides))
+          f n ts (valued-open ts e)
+          ∙ ap (λ (w : Option ℕ). unless w t [] (put (x .session) row v n t))
+          (sym (valued-goes t n x e (update n row v) (left (x .session) row v n t) test v refl q h .rest-decides))
 
-      pub insert-on : (d : Done) → SettlesAny (λ t. appendOf t n 65535 v) (x .session) n d → Serves lent lent (λ t. insertOf t n v) x n d
+      pub insert-on : (d : Relisted) → SettlesAny (x .session) (relisting d) (d .answer) (λ t m. appendOf t m 65535 v)
+          → Serves lent lent [] x n (relisting d n) (d .answer) (λ t. insertOf t n v)
       unfolding insertOf appendOf tests
       insert-on d f ts e =
           let t = lent ts in
-          f t (valued-open ts e)
-          ∙ ap (λ (w : Option ℕ). unless w t (relisted t n (listedAt (own t n) (own t n .count) 65535 v)))
+          f n t (valued-open ts e)
+          ∙ ap (λ (w : Option ℕ). unless w t [] (relisted t n (listedAt (own t n) (own t n .count) 65535 v)))
           (sym (valued-goes t n x e (insert n v) (listFull (session (meaning t) n) ∷ []) test v refl q h .rest-decides))
 
   -- ---- with 4 and 5
 
   module _ (x : Seat) (n : ℕ) (test : asked.Test) (q : whyOf test ≡ openedBy clock slots words heads log changes x n) where
-    pub delete-refused : (row : ℕ) (why : Refusal) (d : Done) → test ≡ No why → d ≡ refusing why → Serves lent lent (λ t. deleteOf t n row) x n d
+    pub delete-refused : (row : ℕ) (why : Refusal) (d : Relisted) → test ≡ No why → d ≡ relistsNone why
+        → Serves lent lent [] x n (relisting d n) (d .answer) (λ t. deleteOf t n row)
     unfolding deleteOf tests
     delete-refused row why d h k =
-        opened-refused clock slots words heads log changes x n (delete n row) (put (x .session) n row 255) test why h d k (left (x .session) n row 255) (λ t. refl) q
+        opened-refused clock slots words heads log changes [] x n (delete n row) (put (x .session) row 255 n) test why h (relisting d n) (d .answer)
+        (idle-relisting d n why k) (left (x .session) row 255 n) (λ t. refl) q
 
     module _ (h : test ≡ Passed) where
-      pub opened-usable : Usable clock slots words heads log changes (x .session)
-      opened-usable =
-          let p = opened-passed clock slots words heads log changes x n test h q in
-          record { room = p .room; good = p .good; start-old = p .start-old; rows-few = p .rows-few; count-low = p .count-low }
-
-      pub delete-on : (row : ℕ) (d : Done) → Settles lent lent (λ t. changeOf t n row 255) (x .session) n d → Serves lent lent (λ t. deleteOf t n row) x n d
+      pub delete-on : (row : ℕ) (d : Relisted) → ChangesRow lent (x .session) row 255 d
+          → Serves lent lent [] x n (relisting d n) (d .answer) (λ t. deleteOf t n row)
       unfolding deleteOf changeOf tests
       delete-on row d f ts e =
           let t = lent ts in
-          let rest = left (x .session) n row 255 t in
+          let rest = left (x .session) row 255 n t in
           let g = opened-goes t n x e (delete n row) rest test refl q h in
           let s = opened-shows t n x e (delete n row) rest test refl q h in
-          f ts (record { room = g .room; good = g .good; place-low = s .place-low; own-there = s .own-there; live-one = s .live-one })
-          ∙ ap (λ (w : Option ℕ). unless w t (put (x .session) n row 255 t)) (sym (g .rest-decides))
+          f n ts (record { room = g .room; good = g .good; place-low = s .place-low; own-there = s .own-there; live-one = s .live-one })
+          ∙ ap (λ (w : Option ℕ). unless w t [] (put (x .session) row 255 n t)) (sym (g .rest-decides))

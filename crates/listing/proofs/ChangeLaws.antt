@@ -23,15 +23,15 @@ use Rattle.tables.specs.Meaning.{targetOf, entries, meaning}
 use Rattle.tables.proofs.Means.{length-entries}
 use Rattle.history.specs.declared.read.Standing.{Standing}
 use Rattle.history.specs.Read.{standingOf, readCells, ReadReady}
-use Rattle.calls.specs.declared.answers.Done.{Done}
-use Rattle.calls.specs.declared.answers.Answer.the-variants.{Count}
+use Rattle.calls.specs.declared.answers.Relisted.{Relisted}
+use Rattle.calls.specs.declared.answers.Answer.the-variants.{No}
 use Rattle.calls.specs.Said.{no, numbers}
 use Rattle.calls.specs.Outcome.{Outcome, outcome, unless}
 use Rattle.calls.specs.Calls.{own, reseated, spotOf, listedAt, relisted}
-use Rattle.calls.specs.Seats.{refusing, seating}
+use Rattle.calls.specs.Seats.{relists, relistsNone, relisting}
 use Rattle.calls.specs.Opened.{SettlesAny}
 use Rattle.listing.specs.Change.{entered, appendOf, targetPut, Stands}
-use Rattle.calls.proofs.Serving.{refusing-resat, seating-resat}
+use Rattle.calls.proofs.Serving.{idle-relisting, idle-left, relisted-left}
 use Rattle.calls.proofs.OpenLaws.{open-list, listed-target, listed-lists, unlisted-target, unlisted-spot, unlisted-lists}
 
 -- ---- the standing value of a row
@@ -60,13 +60,13 @@ module _ (clock slots words heads log changes : List ℕ) (x : Session) (row spo
 
 -- ---- what is refused, and what is entered
 
-pub refuses : (ts : List Test) (k : ℕ) (t : Tables) (o : Outcome) → firstOf ts ≡ some k → unless (firstOf ts) t o ≡ outcome t (no k)
+pub refuses : (ts : List Test) (k : ℕ) (t : Tables) (o : Outcome) → firstOf ts ≡ some k → unless (firstOf ts) t [] o ≡ outcome t [] (no k)
 unfolding unless
-refuses ts k t o e = ap (λ (w : Option ℕ). unless w t o) e
+refuses ts k t o e = ap (λ (w : Option ℕ). unless w t [] o) e
 
-pub accepts : (ts : List Test) (t : Tables) (o : Outcome) → firstOf ts ≡ none → unless (firstOf ts) t o ≡ o
+pub accepts : (ts : List Test) (t : Tables) (o : Outcome) → firstOf ts ≡ none → unless (firstOf ts) t [] o ≡ o
 unfolding unless
-accepts ts t o e = ap (λ (w : Option ℕ). unless w t o) e
+accepts ts t o e = ap (λ (w : Option ℕ). unless w t [] o) e
 
 full : (x : Session) → 32 ≤ x .count → isFull (entries x) ≡ true
 unfolding maxEntries
@@ -78,20 +78,21 @@ not-full x h = lt-leb 32 (length (entries x)) (omega (arith, length-entries x))
 
 -- ---- an entry more
 
-module _ (x : Session) (n at to : ℕ) (d : Done) where
-  pub append-full : 32 ≤ x .count → d ≡ refusing ListFull → SettlesAny (λ t. appendOf t n at to) x n d
+module _ (x : Session) (at to : ℕ) (d : Relisted) where
+  abbrev Appends : Type 0
+  Appends = SettlesAny x (relisting d) (d .answer) (λ t n. appendOf t n at to)
+
+  pub append-full : 32 ≤ x .count → d ≡ relistsNone ListFull → Appends
   unfolding appendOf
-  append-full l e t o =
-      refusing-resat t d ListFull e
+  append-full l e n t o =
+      idle-left t [] n (relisting d n) (d .answer) (No ListFull) (idle-relisting d n ListFull e)
       ∙ sym (refuses (listFull (session (meaning t) n) ∷ []) 9 t (relisted t n (listedAt (own t n) (own t n .count) at to))
       (ap (λ (b : Bool). cond b (some 9) none) (ap isFull (open-list t n x o) ∙ full x l)))
 
-  pub append-more : (i : ℕ) (y : Session) → x .count < 32 → i ≡ x .count → y ≡ withEntry x i at to (x .count + 1) → d ≡ seating (Count (x .count + 1)) n y
-      → SettlesAny (λ t. appendOf t n at to) x n d
+  pub append-more : (i : ℕ) (y : Session) → x .count < 32 → i ≡ x .count → y ≡ withEntry x i at to (x .count + 1) → d ≡ relists y → Appends
   unfolding appendOf withEntry
-  append-more i y l m w e t o =
-      seating-resat t d (Count (x .count + 1)) n y (o .place-low) e
-      ∙ ap (λ (z : Session). outcome (reseated t n z) (numbers ((x .count + 1) ∷ []))) (w ∙ ap (λ (j : ℕ). withEntry x j at to (x .count + 1)) m)
+  append-more i y l m w e n t o =
+      relisted-left t [] n d y (o .place-low) e ∙ ap (relisted t n) (w ∙ ap (λ (j : ℕ). withEntry x j at to (x .count + 1)) m)
       ∙ ap (λ (b : Bool). relisted t n (withEntry x (x .count) at to (cond b (x .count) (x .count + 1)))) (sym (le-ltb (x .count) (x .count) (omega arith)))
       ∙ ap (λ (z : Session). relisted t n (listedAt z (z .count) at to)) (sym (o .own-there))
       ∙ sym (accepts (listFull (session (meaning t) n) ∷ []) t (relisted t n (listedAt (own t n) (own t n .count) at to))
@@ -99,7 +100,7 @@ module _ (x : Session) (n at to : ℕ) (d : Done) where
 
 -- ---- a row's target
 
-module _ (x : Session) (n row to : ℕ) (d : Done) (low : row < 65535) (spot : ℕ) (p : spot ≡ spotOf x row) (k : ℕ) (m : k ≡ x .count) (at : ℕ) (a : at ≡ row) where
+module _ (x : Session) (row to : ℕ) (d : Relisted) (low : row < 65535) (spot : ℕ) (p : spot ≡ spotOf x row) (k : ℕ) (m : k ≡ x .count) (at : ℕ) (a : at ≡ row) where
   and-false : (b : Bool) → b && false ≡ false
   and-false true = refl
   and-false false = refl
@@ -108,12 +109,14 @@ module _ (x : Session) (n row to : ℕ) (d : Done) (low : row < 65535) (spot : �
   and-true true = refl
   and-true false = refl
 
-  pub target-there : (y : Session) → spot < k → y ≡ withEntry x spot at to (x .count) → d ≡ seating (Count (x .count)) n y → SettlesAny (λ t. targetPut t n row to) x n d
+  abbrev Puts : Type 0
+  Puts = SettlesAny x (relisting d) (d .answer) (λ t n. targetPut t n row to)
+
+  pub target-there : (y : Session) → spot < k → y ≡ withEntry x spot at to (x .count) → d ≡ relists y → Puts
   unfolding targetPut withEntry
-  target-there y l w e t o =
+  target-there y l w e n t o =
       let here : spotOf x row < x .count = omega arith in
-      seating-resat t d (Count (x .count)) n y (o .place-low) e
-      ∙ ap (λ (z : Session). outcome (reseated t n z) (numbers (x .count ∷ []))) (w ∙ ap₂ (λ (i r : ℕ). withEntry x i r to (x .count)) p a)
+      relisted-left t [] n d y (o .place-low) e ∙ ap (relisted t n) (w ∙ ap₂ (λ (i r : ℕ). withEntry x i r to (x .count)) p a)
       ∙ ap (λ (b : Bool). relisted t n (withEntry x (spotOf x row) row to (cond b (x .count) (x .count + 1)))) (sym (lt-ltb (spotOf x row) (x .count) here))
       ∙ ap (λ (z : Session). relisted t n (listedAt z (spotOf z row) row to)) (sym (o .own-there))
       ∙ sym (accepts (listFullFor (session (meaning t) n) row ∷ []) t (relisted t n (listedAt (own t n) (spotOf (own t n) row) row to))
@@ -121,12 +124,12 @@ module _ (x : Session) (n row to : ℕ) (d : Done) (low : row < 65535) (spot : �
       ∙ ap (λ (b : Bool). cond (isFull (entries x) && not b) (some 9) none) (listed-lists x row low here)
       ∙ ap (λ (b : Bool). cond b (some 9) none) (and-false (isFull (entries x)))))
 
-  pub target-new : k ≤ spot → SettlesAny (λ t. appendOf t n at to) x n d → SettlesAny (λ t. targetPut t n row to) x n d
+  pub target-new : k ≤ spot → Appends x at to d → Puts
   unfolding targetPut appendOf
-  target-new l f t o =
+  target-new l f n t o =
       let off : x .count ≤ spotOf x row = omega arith in
       let same : listFull (session (meaning t) n) ≡ listFullFor (session (meaning t) n) row =
       ap (λ (b : Bool). (b, 9)) (sym (ap (λ (b : Bool). isFull (listOf (session (meaning t) n)) && not b) (ap (λ (es : List rules.Entry). lists es row) (open-list t n x o) ∙ unlisted-lists x row low off) ∙ and-true (isFull (listOf (session (meaning t) n))))) in
       let place : own t n .count ≡ spotOf (own t n) row = ap (λ (z : Session). z .count) (o .own-there) ∙ sym (ap (λ (z : Session). spotOf z row) (o .own-there) ∙ unlisted-spot x row low off) in
-      f t o ∙ ap (λ (r : ℕ). entered (listFull (session (meaning t) n) ∷ []) t n (own t n .count) r to) a
+      f n t o ∙ ap (λ (r : ℕ). entered (listFull (session (meaning t) n) ∷ []) t n (own t n .count) r to) a
       ∙ ap₂ (λ (c : Test) (i : ℕ). entered (c ∷ []) t n i row to) same place

@@ -10,12 +10,15 @@ use Rattle.tables.specs.declared.session.Session.{Session}
 use Rattle.tables.specs.Cells.{Tables, valuesIn}
 use Rattle.tables.specs.Meaning.{meaning}
 use Rattle.history.specs.Read.{ReadReady}
+use Rattle.calls.specs.declared.answers.Relisted.{Relisted}
 use Rattle.calls.specs.Outcome.{Outcome, unless}
 use Rattle.calls.specs.Calls.{own, spotOf, listedAt, relisted}
+use Rattle.calls.specs.Seats.{relisting}
+use Rattle.calls.specs.Opened.{Settles}
 
 -- an entry set at a place of session n's list, unless a test refuses
 abbrev pub entered : List Test → Tables → ℕ → ℕ → ℕ → ℕ → Outcome
-entered tests t n i at to = unless (firstOf tests) t (relisted t n (listedAt (own t n) i at to))
+entered tests t n i at to = unless (firstOf tests) t [] (relisted t n (listedAt (own t n) i at to))
 
 -- an entry more: 9
 unfoldable pub appendOf : Tables → ℕ → ℕ → ℕ → Outcome
@@ -38,3 +41,7 @@ pub record Stands (clock slots words heads log changes : List ℕ) (x : Session)
   pub count-low : x .count ≤ 32
   pub row-low : row < 65535
   pub spot-is : spot ≡ spotOf x row
+
+-- what update and delete promise from there on, of an open session at any place
+abbrev pub ChangesRow : (List Session → Tables) → Session → ℕ → ℕ → Relisted → Type 0
+ChangesRow lent x row to d = (n : ℕ) → Settles lent lent x n (relisting d n) (d .answer) (λ t. changeOf t n row to)

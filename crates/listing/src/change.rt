@@ -1,23 +1,23 @@
-// Update, delete and insert: they write only to the session's list. Assumes nothing.
-use crate::lists;
-use calls::Answer;
-use calls::Done;
+// Update, delete and insert: they write only to the session's list.
+use calls::Relisted;
 use calls::Test;
 use history::Standing;
 use lent::Seat;
 use tables::Refusal;
 use tables::Row;
 use tables::Session;
+use tables::Value;
 ghost use mathlib.Core.Path.{_≡_};
+ghost use mathlib.Core.List.{[]};
 ghost use Prim.Native.Nat.{_<_, _≤_};
 ghost use Rattle.rules.specs.Lists as rules;
 ghost use Rattle.tables.specs.Cells.{tables, valuesIn};
 ghost use Rattle.tables.specs.Meaning.{entries};
 ghost use Rattle.history.specs.Read.{standingOf, readCells};
 ghost use Rattle.calls.specs.Calls.{spotOf, updateOf, deleteOf, insertOf};
-ghost use Rattle.calls.specs.Seats.{Serves};
-ghost use Rattle.calls.specs.Opened.{Usable, Settles, SettlesAny};
-ghost use Rattle.listing.specs.Change.{appendOf, targetPut, changeOf, Stands};
+ghost use Rattle.calls.specs.Seats.{Serves, relisting};
+ghost use Rattle.calls.specs.Opened.{Usable, SettlesAny};
+ghost use Rattle.listing.specs.Change.{appendOf, targetPut, ChangesRow, Stands};
 
 // The row's standing value: its listed target if any, otherwise its read at the start.
 fn standing(
@@ -35,7 +35,7 @@ fn standing(
     ensures { λ r. ⌜ standingOf r ≡ rules.standing (rules.target (entries s) (row .0)) (readCells (now (slots .entry)) (now (words .entry)) (now (heads .entry)) (now (log .entry)) (now (changes .entry)) (valuesIn (now (clock .entry))) (s .start .0) (row .0)) ⌝ }
 {
     if spot < bits::wide(s.count) {
-        return lists::target_of(s.to[spot]);
+        return calls::target_of(s.to[spot]);
     }
     let start = s.start;
     let c = tables::clock_of(clock);
@@ -44,29 +44,27 @@ fn standing(
 }
 
 // The session with an entry more.
-fn appended(s: Session, n: u64, at: u16, to: u8) -> Done
-    ensures { λ r. ⌜ SettlesAny (λ t. appendOf t n at to) s n r ⌝ }
+fn appended(s: Session, at: u16, to: u8) -> Relisted
+    ensures { λ r. ⌜ SettlesAny s (relisting r) (r .answer) (λ t n. appendOf t n at to) ⌝ }
 {
     let count = s.count;
-    if 32 <= count {
-        return calls::refused(Refusal::ListFull);
+    if tables::MAX_ENTRIES <= count {
+        return calls::not_put_back(Refusal::ListFull);
     }
-    let next = tables::with_entry(s, bits::wide(count), at, to, count + 1);
-    calls::seated(Answer::Count(count + 1), n, next)
+    calls::put_back(tables::with_entry(s, bits::wide(count), at, to, count + 1))
 }
 
 // The session with the row's target: in its entry where it is listed, otherwise in an entry more.
-fn listed(s: Session, n: u64, row: Row, to: u8, spot: usize) -> Done
+fn listed(s: Session, row: Row, to: u8, spot: usize) -> Relisted
     requires { ⌜ (s .count ≤ 32) × (row .0 < 65535) × (spot ≡ spotOf s (row .0)) ⌝ }
-    ensures { λ r. ⌜ SettlesAny (λ t. targetPut t n (row .0) to) s n r ⌝ }
+    ensures { λ r. ⌜ SettlesAny s (relisting r) (r .answer) (λ t n. targetPut t n (row .0) to) ⌝ }
 {
     let at = bits::short(row.0);
     let count = s.count;
     if spot < bits::wide(count) {
-        let next = tables::with_entry(s, spot, at, to, count);
-        return calls::seated(Answer::Count(count), n, next);
+        return calls::put_back(tables::with_entry(s, spot, at, to, count));
     }
-    appended(s, n, at, to)
+    appended(s, at, to)
 }
 
 // Update or delete of a row in an open session: 7, 8 and 9, and the list.
@@ -78,27 +76,25 @@ fn change_row(
     log: &[u32],
     changes: &[u32],
     s: Session,
-    n: u64,
-    row: u64,
+    row: Row,
     to: u8,
-) -> Done
+) -> Relisted
     requires { ⌜ Usable (now clock) (now slots) (now words) (now heads) (now log) (now changes) s ⌝ }
-    ensures { λ r. ⌜ Settles (tables (now (clock .entry)) (now (slots .entry)) (now (words .entry)) (now (heads .entry)) (now (log .entry)) (now (changes .entry))) (tables (now (clock .entry)) (now (slots .entry)) (now (words .entry)) (now (heads .entry)) (now (log .entry)) (now (changes .entry))) (λ t. changeOf t n row to) s n r ⌝ }
+    ensures { λ r. ⌜ ChangesRow (tables (now (clock .entry)) (now (slots .entry)) (now (words .entry)) (now (heads .entry)) (now (log .entry)) (now (changes .entry))) s (row .0) to r ⌝ }
 {
     let rows = s.rows;
-    if (rows.0 as u64) <= row {
-        return calls::refused(Refusal::NoRow);
+    if rows.0 <= row.0 {
+        return calls::not_put_back(Refusal::NoRow);
     }
-    let r = Row(row as u32);
-    let spot = lists::spot_of(s, r);
-    let held = standing(clock, slots, words, heads, log, changes, s, r, spot);
+    let spot = calls::spot_of(s, row);
+    let held = standing(clock, slots, words, heads, log, changes, s, row, spot);
     let Standing::Holds(_) = held else {
-        return calls::refused(Refusal::RowAbsent);
+        return calls::not_put_back(Refusal::RowAbsent);
     };
-    listed(s, n, r, to, spot)
+    listed(s, row, to, spot)
 }
 
-// Update.
+// Update: the row's target is the value.
 pub fn update_in(
     clock: &[u32],
     slots: &[u32],
@@ -108,20 +104,20 @@ pub fn update_in(
     changes: &[u32],
     seat: Seat,
     n: u64,
-    row: u64,
-    v: u64,
-) -> Done
-    ensures { λ r. ⌜ Serves (tables (now (clock .entry)) (now (slots .entry)) (now (words .entry)) (now (heads .entry)) (now (log .entry)) (now (changes .entry))) (tables (now (clock .entry)) (now (slots .entry)) (now (words .entry)) (now (heads .entry)) (now (log .entry)) (now (changes .entry))) (λ t. updateOf t n row v) seat n r ⌝ }
+    row: Row,
+    v: Value,
+) -> Relisted
+    ensures { λ r. ⌜ Serves (tables (now (clock .entry)) (now (slots .entry)) (now (words .entry)) (now (heads .entry)) (now (log .entry)) (now (changes .entry))) (tables (now (clock .entry)) (now (slots .entry)) (now (words .entry)) (now (heads .entry)) (now (log .entry)) (now (changes .entry))) [] seat n (relisting r n) (r .answer) (λ t. updateOf t n (row .0) (v .0)) ⌝ }
 {
     let s = seat.session;
     let test = calls::valued(clock, slots, words, heads, log, changes, seat, n, v);
     match test {
-        Test::No(why) => calls::refused(why),
-        Test::Passed => change_row(clock, slots, words, heads, log, changes, s, n, row, v as u8),
+        Test::No(why) => calls::not_put_back(why),
+        Test::Passed => change_row(clock, slots, words, heads, log, changes, s, row, v.0 as u8),
     }
 }
 
-// Delete.
+// Delete: the row's target is absent.
 pub fn delete_in(
     clock: &[u32],
     slots: &[u32],
@@ -131,19 +127,19 @@ pub fn delete_in(
     changes: &[u32],
     seat: Seat,
     n: u64,
-    row: u64,
-) -> Done
-    ensures { λ r. ⌜ Serves (tables (now (clock .entry)) (now (slots .entry)) (now (words .entry)) (now (heads .entry)) (now (log .entry)) (now (changes .entry))) (tables (now (clock .entry)) (now (slots .entry)) (now (words .entry)) (now (heads .entry)) (now (log .entry)) (now (changes .entry))) (λ t. deleteOf t n row) seat n r ⌝ }
+    row: Row,
+) -> Relisted
+    ensures { λ r. ⌜ Serves (tables (now (clock .entry)) (now (slots .entry)) (now (words .entry)) (now (heads .entry)) (now (log .entry)) (now (changes .entry))) (tables (now (clock .entry)) (now (slots .entry)) (now (words .entry)) (now (heads .entry)) (now (log .entry)) (now (changes .entry))) [] seat n (relisting r n) (r .answer) (λ t. deleteOf t n (row .0)) ⌝ }
 {
     let s = seat.session;
     let test = calls::opened(clock, slots, words, heads, log, changes, seat, n);
     match test {
-        Test::No(why) => calls::refused(why),
-        Test::Passed => change_row(clock, slots, words, heads, log, changes, s, n, row, 255),
+        Test::No(why) => calls::not_put_back(why),
+        Test::Passed => change_row(clock, slots, words, heads, log, changes, s, row, 255),
     }
 }
 
-// Insert.
+// Insert: an entry more, with the value.
 pub fn insert_in(
     clock: &[u32],
     slots: &[u32],
@@ -153,14 +149,14 @@ pub fn insert_in(
     changes: &[u32],
     seat: Seat,
     n: u64,
-    v: u64,
-) -> Done
-    ensures { λ r. ⌜ Serves (tables (now (clock .entry)) (now (slots .entry)) (now (words .entry)) (now (heads .entry)) (now (log .entry)) (now (changes .entry))) (tables (now (clock .entry)) (now (slots .entry)) (now (words .entry)) (now (heads .entry)) (now (log .entry)) (now (changes .entry))) (λ t. insertOf t n v) seat n r ⌝ }
+    v: Value,
+) -> Relisted
+    ensures { λ r. ⌜ Serves (tables (now (clock .entry)) (now (slots .entry)) (now (words .entry)) (now (heads .entry)) (now (log .entry)) (now (changes .entry))) (tables (now (clock .entry)) (now (slots .entry)) (now (words .entry)) (now (heads .entry)) (now (log .entry)) (now (changes .entry))) [] seat n (relisting r n) (r .answer) (λ t. insertOf t n (v .0)) ⌝ }
 {
     let s = seat.session;
     let test = calls::valued(clock, slots, words, heads, log, changes, seat, n, v);
     match test {
-        Test::No(why) => calls::refused(why),
-        Test::Passed => appended(s, n, tables::NEW, v as u8),
+        Test::No(why) => calls::not_put_back(why),
+        Test::Passed => appended(s, tables::NEW, v.0 as u8),
     }
 }

@@ -16,17 +16,19 @@ use Rattle.tables.specs.Clock.{clockIn}
 use Rattle.tables.specs.Sessions.{freed, begun}
 use Rattle.tables.proofs.Facts.{room-facts}
 use Rattle.lent.specs.declared.seats.Seat.{Seat}
-use Rattle.calls.specs.declared.answers.Done.{Done}
+use Rattle.calls.specs.declared.answers.Begun.{Begun}
+use Rattle.calls.specs.declared.answers.Freed.{Freed}
 use Rattle.calls.specs.declared.answers.Answer.the-variants.{Count, At}
+use Rattle.calls.specs.declared.answers.Answer.the-variants as answer
 use Rattle.calls.specs.declared.enter.Test as asked
 use Rattle.calls.specs.declared.enter.Test.the-variants.{Passed, No}
-use Rattle.calls.specs.Said.{numbers, said}
+use Rattle.calls.specs.Said.{numbers}
 use Rattle.calls.specs.Outcome.{Outcome, outcome}
 use Rattle.calls.specs.Calls.{own, reseated, beginning, beginOf, abortOf}
-use Rattle.calls.specs.Seats.{seatOf, plainly, refusing, seating, Serves}
+use Rattle.calls.specs.Seats.{seatOf, opens, opensNone, frees, freesNone, opening, freeing, Serves}
 use Rattle.calls.specs.Enter.{whyOf, placedBy, openedBy}
 use Rattle.calls.proofs.Entered.{bare, placed-passed, placed-goes, opened-goes, opened-passed, own-seat}
-use Rattle.calls.proofs.Serving.{plainly-resat, seating-resat, accepted-outcome, placed-refused, opened-refused}
+use Rattle.calls.proofs.Serving.{idle-opening, idle-freeing, idle-left, opened-left, freed-left, accepted-outcome, placed-refused, opened-refused}
 
 module _ (clock slots words heads log changes : List ℕ) (x : Seat) (n : ℕ) (test : asked.Test) where
   abbrev lent : List Session → Tables
@@ -35,10 +37,14 @@ module _ (clock slots words heads log changes : List ℕ) (x : Seat) (n : ℕ) (
   -- ---- begin
 
   module _ (q : whyOf test ≡ placedBy clock slots words heads log changes (x .places) (x .fit) n) where
-    pub begin-refused : (why : Refusal) (d : Done) → test ≡ No why → d ≡ refusing why → Serves lent lent (λ t. beginOf t n) x n d
+    abbrev Begins : Begun → Type 0
+    Begins d = Serves lent lent [] x n (opening d n) (d .answer) (λ t. beginOf t n)
+
+    pub begin-refused : (why : Refusal) (d : Begun) → test ≡ No why → d ≡ opensNone (answer.No why) → Begins d
     unfolding beginOf tests
     begin-refused why d h k =
-        placed-refused clock slots words heads log changes x n (begin n) (λ t. beginning t n (own t n)) test why h d k (λ t. []) (λ t. refl) q
+        placed-refused clock slots words heads log changes [] x n (begin n) (λ t. beginning t n (own t n)) test why h (opening d n) (d .answer)
+        (idle-opening d n (answer.No why) k) (λ t. []) (λ t. refl) q
 
     module _ (h : test ≡ Passed) where
       pub begin-clock : 6 ≤ length clock
@@ -50,47 +56,50 @@ module _ (clock slots words heads log changes : List ℕ) (x : Seat) (n : ℕ) (
       unfolding beginOf tests
       accepted ts e =
           let t = lent ts in
-          accepted-outcome t (begin n) (beginning t n (own t n)) (placed-goes t n x e (begin n) [] test refl q h .rest-decides)
+          accepted-outcome t [] (begin n) (beginning t n (own t n)) (placed-goes t n x e (begin n) [] test refl q h .rest-decides)
           ∙ ap (beginning t n) (sym (own-seat t n x e))
 
-      pub begin-again : (d : Done) → x .session .live ≡ 1 → d ≡ plainly (At (x .session .start) (x .session .rows .0)) → Serves lent lent (λ t. beginOf t n) x n d
+      -- what it leaves of an open session, and of a free one
+      abbrev again : Tables → Outcome
+      again t = outcome t [] (numbers (x .session .start .0 ∷ x .session .rows .0 ∷ []))
+
+      abbrev new : Tables → Outcome
+      new t = outcome (reseated t n (begun (clockIn clock .stamp) (clockIn clock .rows))) [] (numbers (stampIn clock ∷ rowsIn clock ∷ []))
+
+      pub begin-again : (d : Begun) → x .session .live ≡ 1 → d ≡ opensNone (At (x .session .start) (x .session .rows)) → Begins d
       unfolding beginning
       begin-again d l k ts e =
           let t = lent ts in
-          let o = outcome t (numbers (x .session .start .0 ∷ x .session .rows .0 ∷ [])) in
-          plainly-resat t d (At (x .session .start) (x .session .rows .0)) k
-          ∙ ap (λ (b : Bool). cond b o (outcome (reseated t n (begun (clockIn clock .stamp) (clockIn clock .rows))) (numbers (stampIn clock ∷ rowsIn clock ∷ []))))
-          (sym (eq-eqb (x .session .live) 1 l))
-          ∙ sym (accepted ts e)
+          idle-left t [] n (opening d n) (d .answer) (At (x .session .start) (x .session .rows)) (idle-opening d n (At (x .session .start) (x .session .rows)) k)
+          ∙ ap (λ (b : Bool). cond b (again t) (new t)) (sym (eq-eqb (x .session .live) 1 l)) ∙ sym (accepted ts e)
 
-      pub begin-new : (c : Clock) (s : Session) (d : Done) → (x .session .live ≡ 1 → ⊥) → c ≡ clockIn clock → s ≡ begun (c .stamp) (c .rows)
-          → d ≡ seating (At (c .stamp) (c .rows .0)) n s → Serves lent lent (λ t. beginOf t n) x n d
+      pub begin-new : (c : Clock) (d : Begun) → (x .session .live ≡ 1 → ⊥) → c ≡ clockIn clock → d ≡ opens (c .stamp) (c .rows) → Begins d
       unfolding beginning clockIn
-      begin-new c s d l p r k ts e =
+      begin-new c d l p k ts e =
           let t = lent ts in
-          let o = outcome t (numbers (x .session .start .0 ∷ x .session .rows .0 ∷ [])) in
-          seating-resat t d (At (c .stamp) (c .rows .0)) n s (placed-passed clock slots words heads log changes x n test h q .place-low) k
-          ∙ ap (λ (y : Session). outcome (reseated t n y) (said (At (c .stamp) (c .rows .0)))) r
-          ∙ ap (λ (z : Clock). outcome (reseated t n (begun (z .stamp) (z .rows))) (said (At (z .stamp) (z .rows .0)))) p
-          ∙ ap (λ (b : Bool). cond b o (outcome (reseated t n (begun (clockIn clock .stamp) (clockIn clock .rows))) (numbers (stampIn clock ∷ rowsIn clock ∷ []))))
-          (sym (ne-eqb (x .session .live) 1 l))
-          ∙ sym (accepted ts e)
+          opened-left t [] n d (c .stamp) (c .rows) (placed-passed clock slots words heads log changes x n test h q .place-low) k
+          ∙ ap (λ (z : Clock). outcome (reseated t n (begun (z .stamp) (z .rows))) [] (numbers (z .stamp .0 ∷ z .rows .0 ∷ []))) p
+          ∙ ap (λ (b : Bool). cond b (again t) (new t)) (sym (ne-eqb (x .session .live) 1 l)) ∙ sym (accepted ts e)
 
   -- ---- abort
 
   module _ (q : whyOf test ≡ openedBy clock slots words heads log changes x n) where
+    abbrev Aborts : Freed → Type 0
+    Aborts d = Serves lent lent [] x n (freeing d n) (d .answer) (λ t. abortOf t n)
+
     abbrev dropped : Tables → Outcome
-    dropped t = outcome (reseated t n freed) (numbers (own t n .count ∷ []))
+    dropped t = outcome (reseated t n freed) [] (numbers (own t n .count ∷ []))
 
-    pub abort-refused : (why : Refusal) (d : Done) → test ≡ No why → d ≡ refusing why → Serves lent lent (λ t. abortOf t n) x n d
+    pub abort-refused : (why : Refusal) (d : Freed) → test ≡ No why → d ≡ freesNone why → Aborts d
     unfolding abortOf tests
-    abort-refused why d h k = opened-refused clock slots words heads log changes x n (abort n) dropped test why h d k (λ t. []) (λ t. refl) q
+    abort-refused why d h k =
+        opened-refused clock slots words heads log changes [] x n (abort n) dropped test why h (freeing d n) (d .answer) (idle-freeing d n why k)
+        (λ t. []) (λ t. refl) q
 
-    pub abort-frees : (s : Session) (d : Done) → test ≡ Passed → s ≡ freed → d ≡ seating (Count (x .session .count)) n s → Serves lent lent (λ t. abortOf t n) x n d
+    pub abort-frees : (d : Freed) → test ≡ Passed → d ≡ frees (Count (x .session .count)) → Aborts d
     unfolding abortOf tests
-    abort-frees s d h r k ts e =
+    abort-frees d h k ts e =
         let t = lent ts in
-        seating-resat t d (Count (x .session .count)) n s (opened-passed clock slots words heads log changes x n test h q .place-low) k
-        ∙ ap (λ (y : Session). outcome (reseated t n y) (numbers (x .session .count ∷ []))) r
-        ∙ ap (λ (y : Session). outcome (reseated t n freed) (numbers (y .count ∷ []))) (own-seat t n x e)
-        ∙ sym (accepted-outcome t (abort n) (dropped t) (opened-goes t n x e (abort n) [] test refl q h .rest-decides))
+        freed-left t [] n d (Count (x .session .count)) (opened-passed clock slots words heads log changes x n test h q .place-low) k
+        ∙ ap (λ (y : Session). outcome (reseated t n freed) [] (numbers (y .count ∷ []))) (own-seat t n x e)
+        ∙ sym (accepted-outcome t [] (abort n) (dropped t) (opened-goes t n x e (abort n) [] test refl q h .rest-decides))

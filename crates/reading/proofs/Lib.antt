@@ -4,4 +4,3 @@ pub mod BeginLaws
 pub mod ReadLaws
 pub mod QueryLaws
 pub mod PickLaws
-pub mod QueryRows

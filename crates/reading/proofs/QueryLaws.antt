@@ -2,7 +2,7 @@
 -- Assumes nothing.
 use mathlib.Core.Path.{_≡_, refl, sym, ap, ap₂, _∙_}
 use mathlib.Core.Bool.{Bool, false, cond}
-use mathlib.Core.Option.{Option, none, some}
+use mathlib.Core.Option.{none, some}
 use mathlib.Core.List.{List, [], _∷_}
 use Prim.Native.Nat.{ℕ, _≤_, _<_}
 use borrow.Author.Tests.{eq-eqb, ne-eqb, lt-ltb, le-ltb}
@@ -17,7 +17,6 @@ use Rattle.rules.specs.Refusals.{tests, shortScratch}
 use Rattle.tables.specs.declared.session.Session.{Session}
 use Rattle.tables.specs.declared.refusal.Refusal.{Refusal}
 use Rattle.tables.specs.declared.refusal.Refusal.the-variants.{ShortScratch}
-use Rattle.tables.specs.Refusals.{numberOf}
 use Rattle.tables.specs.Cells.{Tables, tables}
 use Rattle.tables.specs.Meaning.{meaning}
 use Rattle.history.specs.declared.query.Found.{Found}
@@ -25,37 +24,20 @@ use Rattle.history.specs.Version.{slotSeen, baseSeen}
 use Rattle.history.specs.Query.{frontFilled, foundAt, scratchAt, Ready}
 use Rattle.history.proofs.Ready.{ready}
 use Rattle.history.proofs.Meets.{count-meets, scratch-meets}
-use Rattle.lent.specs.Places.{putAt}
 use Rattle.lent.specs.declared.seats.Seat.{Seat}
-use Rattle.calls.specs.declared.answers.Done.{Done}
 use Rattle.calls.specs.declared.answers.Place.the-variants.{Slot, Scratch}
 use Rattle.calls.specs.declared.answers.Answer.{Answer}
 use Rattle.calls.specs.declared.answers.Answer.the-variants as answer
 use Rattle.calls.specs.declared.enter.Test as asked
 use Rattle.calls.specs.declared.enter.Test.the-variants.{Passed, No}
-use Rattle.calls.specs.Said.{said}
 use Rattle.calls.specs.Said as says
-use Rattle.calls.specs.Outcome.{refusalAt}
-use Rattle.calls.specs.Query.{QueryOutcome, queryOutcome, rowsSeen, flipsSeen, unlessAsked, queryOf}
+use Rattle.calls.specs.Outcome.{Outcome, outcome}
+use Rattle.calls.specs.Query.{rowsSeen, flipsSeen, queryOf}
 use Rattle.calls.specs.Query as query
-use Rattle.calls.specs.Seats.{seatOf, plainly, refusing, resat, Asks}
+use Rattle.calls.specs.Seats.{seatOf, untouched, Serves}
 use Rattle.calls.specs.Enter.{whyOf, valuedBy}
-use Rattle.calls.proofs.Entered.{bare, Goes, Shows, Valued, valued-passed, valued-refuses, valued-goes, valued-shows}
-
--- ---- the tables, the scratch and the answer after each end
-
-plainly-asked : (t : Tables) (ws : List ℕ) (d : Done) (a : Answer) → d ≡ plainly a → queryOutcome (resat t d) ws (said (d .answer)) ≡ queryOutcome t ws (said a)
-unfolding plainly putAt
-plainly-asked t ws d a e = ap (λ (y : Done). queryOutcome (resat t y) ws (said (y .answer))) e
-
-refused-asked : (t : Tables) (ws : List ℕ) (w : Option ℕ) (o : QueryOutcome) (why : Refusal) (d : Done) → w ≡ some (numberOf why) → d ≡ refusing why
-    → queryOutcome (resat t d) ws (said (d .answer)) ≡ unlessAsked w t ws o
-unfolding unlessAsked refusing
-refused-asked t ws w o why d r e = plainly-asked t ws d (answer.No why) e ∙ ap (λ (u : Option ℕ). unlessAsked u t ws o) (sym r)
-
-accepted-asked : (t : Tables) (ws : List ℕ) (w : Option ℕ) (o : QueryOutcome) → w ≡ none → unlessAsked w t ws o ≡ o
-unfolding unlessAsked
-accepted-asked t ws w o r = ap (λ (u : Option ℕ). unlessAsked u t ws o) r
+use Rattle.calls.proofs.Entered.{bare, Goes, Shows, Valued, valued-passed, valued-goes, valued-shows}
+use Rattle.calls.proofs.Serving.{idle, refused-outcome, accepted-outcome, valued-refused}
 
 module _ (clock slots words heads log changes scratch : List ℕ) (x : Seat) (n v threshold : ℕ) (test : asked.Test)
     (q : whyOf test ≡ valuedBy clock slots words heads log changes x n v) where
@@ -63,16 +45,18 @@ module _ (clock slots words heads log changes scratch : List ℕ) (x : Seat) (n 
   lent = tables clock slots words heads log changes
 
   -- what a query leaves, that scratch being at its end
-  abbrev Answers : List ℕ → Done → Type 0
-  Answers after d = Asks lent lent scratch after (λ t ws. queryOf t ws n v threshold) x n d
+  abbrev Answers : List ℕ → Answer → Type 0
+  Answers after a = Serves lent lent (after ∷ []) x n untouched a (λ t. queryOf t scratch n v threshold)
 
-  pub query-refused : (why : Refusal) (d : Done) → test ≡ No why → d ≡ refusing why → Answers scratch d
+  -- an accepted query
+  abbrev done : Tables → Outcome
+  done t = query.asked t scratch (startOf (session (meaning t) n)) v threshold
+
+  pub query-refused : (why : Refusal) → test ≡ No why → Answers scratch (answer.No why)
   unfolding queryOf tests
-  query-refused why d h k ts e =
-      let t = lent ts in
-      let c = query n v threshold (length scratch) in
-      refused-asked t scratch (refusalAt t c) (query.asked t scratch (startOf (session (meaning t) n)) v threshold) why d
-      (valued-refuses t n x e c (shortScratch (length scratch) ∷ []) test v refl q why h) k
+  query-refused why h =
+      valued-refused clock slots words heads log changes (scratch ∷ []) x n (query n v threshold (length scratch)) done test why h untouched (answer.No why)
+      (idle _ _ refl) (λ t. shortScratch (length scratch) ∷ []) v (λ t. refl) q
 
   module _ (h : test ≡ Passed) where
     passed : Valued clock slots words heads log changes (x .session) n v
@@ -91,12 +75,12 @@ module _ (clock slots words heads log changes scratch : List ℕ) (x : Seat) (n 
       unfolding tests
       shown = valued-shows (lent ts) n x e (query n v threshold (length scratch)) (shortScratch (length scratch) ∷ []) test v refl q h
 
-    pub query-short : (d : Done) → length scratch < 32 → d ≡ refusing ShortScratch → Answers scratch d
+    pub query-short : length scratch < 32 → Answers scratch (answer.No ShortScratch)
     unfolding queryOf vectorWords
-    query-short d l k ts e =
+    query-short l ts e =
         let t = lent ts in
-        refused-asked t scratch (refusalAt t (query n v threshold (length scratch))) (query.asked t scratch (startOf (session (meaning t) n)) v threshold)
-        ShortScratch d (went ts e .rest-decides ∙ ap (λ (b : Bool). cond b (some 10) none) (lt-ltb (length scratch) 32 l)) k
+        refused-outcome t (scratch ∷ []) (query n v threshold (length scratch)) (done t) ShortScratch untouched (answer.No ShortScratch)
+        (went ts e .rest-decides ∙ ap (λ (b : Bool). cond b (some 10) none) (lt-ltb (length scratch) 32 l)) (idle _ _ refl)
 
     module _ (l : 32 ≤ length scratch) (f : Found) (p : f ≡ foundAt slots heads log changes (x .session .start .0) v) (after : List ℕ)
         (w : after ≡ scratchAt slots words heads log changes scratch (x .session .start .0) v) where
@@ -108,7 +92,7 @@ module _ (clock slots words heads log changes scratch : List ℕ) (x : Seat) (n 
         unfolding queryOf vectorWords
         accepted =
             let t = lent ts in
-            accepted-asked t scratch (refusalAt t (query n v threshold (length scratch))) (query.asked t scratch (startOf (session (meaning t) n)) v threshold)
+            accepted-outcome t (scratch ∷ []) (query n v threshold (length scratch)) (done t)
             (went ts e .rest-decides ∙ ap (λ (b : Bool). cond b (some 10) none) (le-ltb (length scratch) 32 l))
             ∙ ap (λ (s : ℕ). query.asked t scratch s v threshold) (shown ts e .start-means)
 
@@ -121,28 +105,26 @@ module _ (clock slots words heads log changes scratch : List ℕ) (x : Seat) (n 
         scratch-is = w ∙ scratch-meets (lent ts) (went ts e .good) start (shown ts e .facts .start-old) v (passed .value-low) scratch
 
       -- no row is flipped: the slot's own words
-      pub query-own : (d : Done) → f .flips ≡ 0 → d ≡ plainly (answer.Listed 0 false (Slot (f .slot))) → Answers after d
+      pub query-own : f .flips ≡ 0 → Answers after (answer.Listed 0 false (Slot (f .slot)))
       unfolding foundAt baseSeen query.asked
-      query-own d z k ts e =
+      query-own z ts e =
           let t = lent ts in
           let none-flipped = eq-eqb (flipsSeen t start v) 0 (sym (flips-are ts e) ∙ z) in
-          plainly-asked t after d (answer.Listed 0 false (Slot (f .slot))) k
-          ∙ ap₂ (λ (ws : List ℕ) (i : ℕ). queryOutcome t ws (says.words 0 false (some i)))
+          ap₂ (λ (ws : List ℕ) (i : ℕ). outcome t (ws ∷ []) (says.words 0 false (some i)))
           (scratch-is ts e ∙ ap (λ (b : Bool). cond b scratch (over (vec (rowsSeen t start v) 32) scratch)) none-flipped)
           (ap (λ (g : Found). g .slot) p)
-          ∙ ap (λ (b : Bool). cond b (queryOutcome t scratch (says.words 0 false (some (slotSeen slots heads start v))))
-          (queryOutcome t (over (vec (rowsSeen t start v) 32) scratch) (says.words (flipsSeen t start v) (ltb threshold (flipsSeen t start v)) none))) (sym none-flipped)
+          ∙ ap (λ (b : Bool). cond b (outcome t (scratch ∷ []) (says.words 0 false (some (slotSeen slots heads start v))))
+          (outcome t (over (vec (rowsSeen t start v) 32) scratch ∷ []) (says.words (flipsSeen t start v) (ltb threshold (flipsSeen t start v)) none))) (sym none-flipped)
           ∙ sym (accepted ts e)
 
       -- some are: the scratch's
-      pub query-copied : (d : Done) → (f .flips ≡ 0 → ⊥) → d ≡ plainly (answer.Listed (f .flips) (ltb threshold (f .flips)) Scratch) → Answers after d
+      pub query-copied : (f .flips ≡ 0 → ⊥) → Answers after (answer.Listed (f .flips) (ltb threshold (f .flips)) Scratch)
       unfolding query.asked
-      query-copied d z k ts e =
+      query-copied z ts e =
           let t = lent ts in
           let some-flipped = ne-eqb (flipsSeen t start v) 0 (λ y. z (flips-are ts e ∙ y)) in
-          plainly-asked t after d (answer.Listed (f .flips) (ltb threshold (f .flips)) Scratch) k
-          ∙ ap₂ (λ (ws : List ℕ) (m : ℕ). queryOutcome t ws (says.words m (ltb threshold m) none))
+          ap₂ (λ (ws : List ℕ) (m : ℕ). outcome t (ws ∷ []) (says.words m (ltb threshold m) none))
           (scratch-is ts e ∙ ap (λ (b : Bool). cond b scratch (over (vec (rowsSeen t start v) 32) scratch)) some-flipped) (flips-are ts e)
-          ∙ ap (λ (b : Bool). cond b (queryOutcome t scratch (says.words 0 false (some (slotSeen slots heads start v))))
-          (queryOutcome t (over (vec (rowsSeen t start v) 32) scratch) (says.words (flipsSeen t start v) (ltb threshold (flipsSeen t start v)) none))) (sym some-flipped)
+          ∙ ap (λ (b : Bool). cond b (outcome t (scratch ∷ []) (says.words 0 false (some (slotSeen slots heads start v))))
+          (outcome t (over (vec (rowsSeen t start v) 32) scratch ∷ []) (says.words (flipsSeen t start v) (ltb threshold (flipsSeen t start v)) none))) (sym some-flipped)
           ∙ sym (accepted ts e)

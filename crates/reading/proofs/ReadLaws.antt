@@ -25,29 +25,33 @@ use Rattle.history.specs.Read.{standingOf, readCells, ReadReady}
 use Rattle.history.proofs.Ready.{read-ready}
 use Rattle.history.proofs.Meets.{read-meets}
 use Rattle.lent.specs.declared.seats.Seat.{Seat}
-use Rattle.calls.specs.declared.answers.Done.{Done}
-use Rattle.calls.specs.declared.answers.Answer.the-variants.{Read}
+use Rattle.calls.specs.declared.answers.Answer.{Answer}
+use Rattle.calls.specs.declared.answers.Answer.the-variants as answer
 use Rattle.calls.specs.declared.enter.Test as asked
 use Rattle.calls.specs.declared.enter.Test.the-variants.{Passed, No}
 use Rattle.calls.specs.Said.{value}
 use Rattle.calls.specs.Outcome.{Outcome, outcome, refusalAt}
 use Rattle.calls.specs.Calls.{readOf}
-use Rattle.calls.specs.Seats.{seatOf, plainly, refusing, Serves}
+use Rattle.calls.specs.Seats.{seatOf, untouched, Serves}
 use Rattle.calls.specs.Enter.{whyOf, openedBy}
 use Rattle.calls.proofs.Entered.{bare, Goes, Shows, Opened, opened-passed, opened-goes, opened-shows}
-use Rattle.calls.proofs.Serving.{plainly-resat, refused-outcome, accepted-outcome, opened-refused}
+use Rattle.calls.proofs.Serving.{idle, refused-outcome, accepted-outcome, opened-refused}
 
 module _ (clock slots words heads log changes : List ℕ) (x : Seat) (n row : ℕ) (test : asked.Test) (q : whyOf test ≡ openedBy clock slots words heads log changes x n) where
   abbrev lent : List Session → Tables
   lent = tables clock slots words heads log changes
 
   abbrev seen : Tables → Outcome
-  seen t = outcome t (value (readIn (meaning t) (session (meaning t) n) row))
+  seen t = outcome t [] (value (readIn (meaning t) (session (meaning t) n) row))
 
-  pub read-refused : (why : Refusal) (d : Done) → test ≡ No why → d ≡ refusing why → Serves lent lent (λ t. readOf t n row) x n d
+  abbrev Reads : Answer → Type 0
+  Reads a = Serves lent lent [] x n untouched a (λ t. readOf t n row)
+
+  pub read-refused : (why : Refusal) → test ≡ No why → Reads (answer.No why)
   unfolding readOf tests
-  read-refused why d h k =
-      opened-refused clock slots words heads log changes x n (read n row) seen test why h d k (λ t. noRow (session (meaning t) n) row ∷ []) (λ t. refl) q
+  read-refused why h =
+      opened-refused clock slots words heads log changes [] x n (read n row) seen test why h untouched (answer.No why) (idle _ _ refl)
+      (λ t. noRow (session (meaning t) n) row ∷ []) (λ t. refl) q
 
   module _ (h : test ≡ Passed) where
     passed : Opened clock slots words heads log changes (x .session) n
@@ -75,24 +79,22 @@ module _ (clock slots words heads log changes : List ℕ) (x : Seat) (n row : �
       row-decides : refusalAt (lent ts) (read n row) ≡ cond (leb (x .session .rows .0) row) (some 7) none
       row-decides = went .rest-decides ∙ ap (λ (m : ℕ). cond (leb m row) (some 7) none) (shown .rows-mean)
 
-    pub read-no-row : (d : Done) → x .session .rows .0 ≤ row → d ≡ refusing NoRow → Serves lent lent (λ t. readOf t n row) x n d
+    pub read-no-row : x .session .rows .0 ≤ row → Reads (answer.No NoRow)
     unfolding readOf
-    read-no-row d l k ts e =
-        refused-outcome (lent ts) (read n row) (seen (lent ts)) NoRow d
-        (row-decides ts e ∙ ap (λ (b : Bool). cond b (some 7) none) (le-leb (x .session .rows .0) row l)) k
+    read-no-row l ts e =
+        refused-outcome (lent ts) [] (read n row) (seen (lent ts)) NoRow untouched (answer.No NoRow)
+        (row-decides ts e ∙ ap (λ (b : Bool). cond b (some 7) none) (le-leb (x .session .rows .0) row l)) (idle _ _ refl)
 
-    pub read-reads : (c : Clock) (r : Standing) (d : Done) → row < x .session .rows .0 → c ≡ clockIn clock
-        → standingOf r ≡ readCells slots words heads log changes (c .values .0) (x .session .start .0) row → d ≡ plainly (Read r)
-        → Serves lent lent (λ t. readOf t n row) x n d
+    pub read-reads : (c : Clock) (r : Standing) → row < x .session .rows .0 → c ≡ clockIn clock
+        → standingOf r ≡ readCells slots words heads log changes (c .values .0) (x .session .start .0) row → Reads (answer.Read r)
     unfolding readOf clockIn
-    read-reads c r d l p z k ts e =
+    read-reads c r l p z ts e =
         let t = lent ts in
         let s = shown ts e in
-        plainly-resat t d (Read r) k
-        ∙ ap (λ (o : Option ℕ). outcome t (value o))
+        ap (λ (o : Option ℕ). outcome t [] (value o))
         (z ∙ ap (λ (y : Clock). readCells slots words heads log changes (y .values .0) (x .session .start .0) row) p
         ∙ read-meets t (went ts e .good) (x .session .start .0) (s .facts .start-old) row
         ∙ ap (λ (m : ℕ). readAt (meaning t .values) (meaning t .log) (meaning t .chains) m row) (sym (s .start-means)))
         ∙ sym
-        (accepted-outcome t (read n row) (seen t)
+        (accepted-outcome t [] (read n row) (seen t)
         (row-decides ts e ∙ ap (λ (b : Bool). cond b (some 7) none) (lt-leb (x .session .rows .0) row l)))

@@ -1,11 +1,12 @@
-// Begin and abort. Assumes nothing.
+// Begin and abort.
 use calls::Answer;
-use calls::Done;
+use calls::Begun;
+use calls::Freed;
 use calls::Test;
 use lent::Seat;
-ghost use mathlib.Core.Path.{_≡_};
+ghost use mathlib.Core.List.{[]};
 ghost use Rattle.tables.specs.Cells.{tables};
-ghost use Rattle.calls.specs.Seats.{Serves};
+ghost use Rattle.calls.specs.Seats.{Serves, opening, freeing};
 ghost use Rattle.calls.specs.Calls.{beginOf, abortOf};
 
 // Begin: the start that an open session has already, or the current one.
@@ -18,8 +19,8 @@ pub fn begin_in(
     changes: &[u32],
     seat: Seat,
     n: u64,
-) -> Done
-    ensures { λ r. ⌜ Serves (tables (now (clock .entry)) (now (slots .entry)) (now (words .entry)) (now (heads .entry)) (now (log .entry)) (now (changes .entry))) (tables (now (clock .entry)) (now (slots .entry)) (now (words .entry)) (now (heads .entry)) (now (log .entry)) (now (changes .entry))) (λ t. beginOf t n) seat n r ⌝ }
+) -> Begun
+    ensures { λ r. ⌜ Serves (tables (now (clock .entry)) (now (slots .entry)) (now (words .entry)) (now (heads .entry)) (now (log .entry)) (now (changes .entry))) (tables (now (clock .entry)) (now (slots .entry)) (now (words .entry)) (now (heads .entry)) (now (log .entry)) (now (changes .entry))) [] seat n (opening r n) (r .answer) (λ t. beginOf t n) ⌝ }
 {
     let test = calls::placed(
         clock,
@@ -33,27 +34,23 @@ pub fn begin_in(
         n,
     );
     match test {
-        Test::No(why) => calls::refused(why),
+        Test::No(why) => calls::none_opened(Answer::No(why)),
         Test::Passed => {
             let s = seat.session;
             if s.live == 1 {
                 let start = s.start;
                 let rows = s.rows;
-                return calls::answered(Answer::At(start, rows.0));
+                return calls::none_opened(Answer::At(start, rows));
             }
             let c = tables::clock_of(clock);
             let stamp = c.stamp;
             let rows = c.rows;
-            calls::seated(
-                Answer::At(stamp, rows.0),
-                n,
-                tables::opened_session(stamp, rows),
-            )
+            calls::opened_at(stamp, rows)
         }
     }
 }
 
-// Abort.
+// Abort: the length of the list dropped.
 pub fn abort_in(
     clock: &[u32],
     slots: &[u32],
@@ -63,13 +60,13 @@ pub fn abort_in(
     changes: &[u32],
     seat: Seat,
     n: u64,
-) -> Done
-    ensures { λ r. ⌜ Serves (tables (now (clock .entry)) (now (slots .entry)) (now (words .entry)) (now (heads .entry)) (now (log .entry)) (now (changes .entry))) (tables (now (clock .entry)) (now (slots .entry)) (now (words .entry)) (now (heads .entry)) (now (log .entry)) (now (changes .entry))) (λ t. abortOf t n) seat n r ⌝ }
+) -> Freed
+    ensures { λ r. ⌜ Serves (tables (now (clock .entry)) (now (slots .entry)) (now (words .entry)) (now (heads .entry)) (now (log .entry)) (now (changes .entry))) (tables (now (clock .entry)) (now (slots .entry)) (now (words .entry)) (now (heads .entry)) (now (log .entry)) (now (changes .entry))) [] seat n (freeing r n) (r .answer) (λ t. abortOf t n) ⌝ }
 {
     let count = seat.session.count;
     let test = calls::opened(clock, slots, words, heads, log, changes, seat, n);
     match test {
-        Test::No(why) => calls::refused(why),
-        Test::Passed => calls::seated(Answer::Count(count), n, tables::free_session()),
+        Test::No(why) => calls::none_freed(why),
+        Test::Passed => calls::made_free(Answer::Count(count)),
     }
 }

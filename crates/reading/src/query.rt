@@ -1,6 +1,5 @@
-// Query, the picker, and read. Assumes nothing.
+// Query, the picker, and read.
 use calls::Answer;
-use calls::Done;
 use calls::Place;
 use calls::Test;
 use lent::Seat;
@@ -8,8 +7,9 @@ use tables::Refusal;
 use tables::Row;
 use tables::Value;
 ghost use mathlib.Core.Path.{_≡_};
+ghost use mathlib.Core.List.{[], _∷_};
 ghost use Rattle.tables.specs.Cells.{tables};
-ghost use Rattle.calls.specs.Seats.{Serves, Asks};
+ghost use Rattle.calls.specs.Seats.{Serves, untouched};
 ghost use Rattle.calls.specs.Calls.{readOf};
 ghost use Rattle.calls.specs.Query.{queryOf, pickedFrom};
 ghost use Rattle.calls.specs.Said.{placeOf};
@@ -25,35 +25,26 @@ pub fn query_in(
     scratch: &mut [u64],
     seat: Seat,
     n: u64,
-    v: u64,
+    v: Value,
     threshold: u64,
-) -> Done
-    ensures { λ r. ⌜ Asks (tables (now (clock .entry)) (now (slots .entry)) (now (words .entry)) (now (heads .entry)) (now (log .entry)) (now (changes .entry))) (tables (now (clock .entry)) (now (slots .entry)) (now (words .entry)) (now (heads .entry)) (now (log .entry)) (now (changes .entry))) (now (scratch .entry)) (now (scratch .exit)) (λ t ws. queryOf t ws n v threshold) seat n r ⌝ }
+) -> Answer
+    ensures { λ r. ⌜ Serves (tables (now (clock .entry)) (now (slots .entry)) (now (words .entry)) (now (heads .entry)) (now (log .entry)) (now (changes .entry))) (tables (now (clock .entry)) (now (slots .entry)) (now (words .entry)) (now (heads .entry)) (now (log .entry)) (now (changes .entry))) (now (scratch .exit) ∷ []) seat n untouched r (λ t. queryOf t (now (scratch .entry)) n (v .0) threshold) ⌝ }
 {
     let s = seat.session;
     let start = s.start;
     let test = calls::valued(clock, slots, words, heads, log, changes, seat, n, v);
     match test {
-        Test::No(why) => calls::refused(why),
+        Test::No(why) => Answer::No(why),
         Test::Passed => {
             if scratch.len() < 32 {
-                return calls::refused(Refusal::ShortScratch);
+                return Answer::No(Refusal::ShortScratch);
             }
-            let found = history::query_at(
-                slots,
-                words,
-                heads,
-                log,
-                changes,
-                scratch,
-                start,
-                Value(v as u32),
-            );
+            let found = history::query_at(slots, words, heads, log, changes, scratch, start, v);
             let flips = found.flips;
             if flips == 0 {
-                return calls::answered(Answer::Listed(0, false, Place::Slot(found.slot)));
+                return Answer::Listed(0, false, Place::Slot(found.slot));
             }
-            calls::answered(Answer::Listed(flips, threshold < (flips as u64), Place::Scratch))
+            Answer::Listed(flips, threshold < (flips as u64), Place::Scratch)
         }
     }
 }
@@ -83,7 +74,7 @@ pub fn picked<'a>(words: &'a [u64], scratch: &'a [u64], place: Place) -> &'a [u6
     }
 }
 
-// Read.
+// Read: the row's value at the session's start, or that it is absent.
 pub fn read_in(
     clock: &[u32],
     slots: &[u32],
@@ -93,32 +84,23 @@ pub fn read_in(
     changes: &[u32],
     seat: Seat,
     n: u64,
-    row: u64,
-) -> Done
-    ensures { λ r. ⌜ Serves (tables (now (clock .entry)) (now (slots .entry)) (now (words .entry)) (now (heads .entry)) (now (log .entry)) (now (changes .entry))) (tables (now (clock .entry)) (now (slots .entry)) (now (words .entry)) (now (heads .entry)) (now (log .entry)) (now (changes .entry))) (λ t. readOf t n row) seat n r ⌝ }
+    row: Row,
+) -> Answer
+    ensures { λ r. ⌜ Serves (tables (now (clock .entry)) (now (slots .entry)) (now (words .entry)) (now (heads .entry)) (now (log .entry)) (now (changes .entry))) (tables (now (clock .entry)) (now (slots .entry)) (now (words .entry)) (now (heads .entry)) (now (log .entry)) (now (changes .entry))) [] seat n untouched r (λ t. readOf t n (row .0)) ⌝ }
 {
     let s = seat.session;
     let start = s.start;
     let rows = s.rows;
     let test = calls::opened(clock, slots, words, heads, log, changes, seat, n);
     match test {
-        Test::No(why) => calls::refused(why),
+        Test::No(why) => Answer::No(why),
         Test::Passed => {
-            if (rows.0 as u64) <= row {
-                return calls::refused(Refusal::NoRow);
+            if rows.0 <= row.0 {
+                return Answer::No(Refusal::NoRow);
             }
             let c = tables::clock_of(clock);
             let values = c.values;
-            calls::answered(Answer::Read(history::read_at(
-                slots,
-                words,
-                heads,
-                log,
-                changes,
-                values,
-                start,
-                Row(row as u32),
-            )))
+            Answer::Read(history::read_at(slots, words, heads, log, changes, values, start, row))
         }
     }
 }

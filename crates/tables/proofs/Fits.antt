@@ -14,7 +14,7 @@ use Rattle.bits.specs.Cases.{eq-cases}
 use Rattle.rules.specs.State.{Change, Log, Version, Chain, Entry, alter, add}
 use Rattle.rules.specs.Log as log
 use Rattle.rules.specs.Lists.{lists}
-use Rattle.rules.specs.Damage.{ChangesFit, LogFits, Falls, VectorsFit, Within, EntriesFit, Once}
+use Rattle.rules.proofs.Invariant.{ChangesFit, LogFits, Falls, VectorsFit, Within, EntriesFit, Once}
 use Rattle.tables.specs.declared.session.Session.{Session}
 use Rattle.tables.specs.Cells.{valuesIn, firstIn, stampIn, rowsIn, slotsIn, slotStamp, slotLink, rowsAt, endAt}
 use Rattle.tables.specs.Stretch.{stretch}

@@ -11,7 +11,7 @@ use Rattle.rules.specs.Limits.{maxSessions, maxEntries}
 use Rattle.rules.specs.State.{chain, session}
 use Rattle.rules.specs.Log.{stampOf}
 use Rattle.rules.specs.Log as log
-use Rattle.rules.specs.Damage.{LogFits, Falls, VectorsFit, OpenFits, SessionFits, Undamaged}
+use Rattle.rules.proofs.Invariant.{LogFits, Falls, VectorsFit, OpenFits, SessionFits, Undamaged}
 use Rattle.tables.specs.declared.session.Session.{Session}
 use Rattle.tables.specs.Cells.{Tables, valuesIn, firstIn, stampIn, slotsIn, slotStamp, headOf}
 use Rattle.tables.specs.Sessions.{sessionAt}

@@ -3,6 +3,7 @@
 mod cells;
 mod clock;
 mod counts;
+mod limits;
 mod refusal;
 mod session;
 
@@ -31,6 +32,19 @@ pub use clock::slots_used;
 pub use counts::Row;
 pub use counts::Stamp;
 pub use counts::Value;
+pub use limits::CHANGE_CELLS;
+pub use limits::HEAD_CELLS;
+pub use limits::LOG_CELLS;
+pub use limits::MAX_CHANGES;
+pub use limits::MAX_ENTRIES;
+pub use limits::MAX_RECORDS;
+pub use limits::MAX_ROWS;
+pub use limits::MAX_SESSIONS;
+pub use limits::MAX_SLOTS;
+pub use limits::MAX_VALUES;
+pub use limits::SLOT_CELLS;
+pub use limits::SLOT_WORDS;
+pub use limits::VECTOR_WORDS;
 pub use refusal::Refusal;
 pub use refusal::number;
 pub use session::NEW;

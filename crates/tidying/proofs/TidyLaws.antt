@@ -26,7 +26,7 @@ use Rattle.history.specs.Flips.{flippedIn, RowsLow}
 use Rattle.history.proofs.Ready.{based, rows-low}
 use Rattle.calls.specs.declared.answers.Answer.{Answer}
 use Rattle.calls.specs.declared.answers.Answer.the-variants.{At}
-use Rattle.calls.specs.declared.answers.Done.{Done}
+use Rattle.calls.specs.declared.answers.Answer.the-variants as answer
 use Rattle.lent.specs.declared.seats.Seat.{Seat}
 use Rattle.calls.specs.declared.enter.Test as asked
 use Rattle.calls.specs.declared.enter.Test.the-variants.{Passed, No}
@@ -34,11 +34,12 @@ use Rattle.calls.specs.Said.{said, numbers}
 use Rattle.calls.specs.Outcome.{Outcome, outcome, unless}
 use Rattle.calls.specs.Stores.{stores}
 use Rattle.calls.specs.Calls.{own, tidyStores, tidyOf}
-use Rattle.calls.specs.Seats.{plainly, refusing, resat, Serves}
+use Rattle.calls.specs.Seats.{untouched, Serves}
 use Rattle.calls.specs.Enter.{whyOf, valuedBy}
-use Rattle.tidying.specs.Tidy.{Datable, tidyTests, RowsPut, Puttable, Fillable, VersionPut, Tidyable, TidyReady, movedIn, tidyClock, tidyLog, tidiedCells, Tidied, tidyCells, Tidies}
+use Rattle.tidying.specs.declared.tidy.Plan.{Plan}
+use Rattle.tidying.specs.Tidy.{Datable, tidyTests, RowsPut, Puttable, Fillable, VersionPut, Tidyable, TidyReady, Plannable, planOf, movedIn, tidyClock, tidyLog, tidiedCells, Tidied, tidyCells, Tidies}
 use Rattle.calls.proofs.Entered.{bare, Valued, valued-passed, valued-goes, valued-shows}
-use Rattle.calls.proofs.Serving.{plainly-resat, refusing-resat, valued-refused}
+use Rattle.calls.proofs.Serving.{idle, valued-refused}
 use Rattle.tidying.proofs.TidyMeets.{tests-meet, cells-meet}
 
 -- ---- the record and the clock
@@ -54,10 +55,6 @@ module _ (clock : List ℕ) (c : Clock) (e : c ≡ clockIn clock) where
   unfolding clockIn
   stamp-is = ap (λ (x : Clock). x .stamp .0) e
 
-  rows-is : c .rows .0 ≡ rowsIn clock
-  unfolding clockIn
-  rows-is = ap (λ (x : Clock). x .rows .0) e
-
   pub stamp-low : stampIn clock < 512 → c .stamp .0 < 512
   stamp-low h = omega (arith, stamp-is)
 
@@ -65,18 +62,19 @@ module _ (clock : List ℕ) (c : Clock) (e : c ≡ clockIn clock) where
   stamp-fits h = omega (arith, stamp-is)
 
   module _ (moved used slots : ℕ) (u : used ≡ changesIn clock) (s : slots ≡ slotsIn clock) where
-    pub log-tidied : (log log′ : List ℕ) → log′ ≡ putRecord log (c .stamp .0) 2 (c .rows .0) (used + moved) → log′ ≡ tidyLog clock log moved
-    log-tidied log log′ q =
-        q ∙ ap₂ (λ (k n : ℕ). putRecord log k 2 n (used + moved)) stamp-is rows-is ∙ ap (λ (m : ℕ). putRecord log (stampIn clock) 2 (rowsIn clock) (m + moved)) u
-
-    module _ (next : Clock) (n : next ≡ later c (c .rows)) where
+    module _ (next : Clock) (n : next ≡ later (clockIn clock) (clockIn clock .rows)) where
       next-stamp : next .stamp .0 ≡ stampIn clock + 1
-      unfolding later
-      next-stamp = ap (λ (x : Clock). x .stamp .0) n ∙ ap (λ (k : ℕ). k + 1) stamp-is
+      unfolding later clockIn
+      next-stamp = ap (λ (x : Clock). x .stamp .0) n
 
       next-rows : next .rows .0 ≡ rowsIn clock
-      unfolding later
-      next-rows = ap (λ (x : Clock). x .rows .0) n ∙ rows-is
+      unfolding later clockIn
+      next-rows = ap (λ (x : Clock). x .rows .0) n
+
+      pub log-tidied : (log log′ : List ℕ) → log′ ≡ putRecord log (c .stamp .0) 2 (next .rows .0) (used + moved) → log′ ≡ tidyLog clock log moved
+      log-tidied log log′ q =
+          q ∙ ap₂ (λ (k m : ℕ). putRecord log k 2 m (used + moved)) stamp-is next-rows
+          ∙ ap (λ (m : ℕ). putRecord log (stampIn clock) 2 (rowsIn clock) (m + moved)) u
 
       pub clock-tidied : (clock′ : List ℕ) → clock′ ≡ set (set (set (set clock 2 (next .stamp .0)) 3 (next .rows .0)) 4 (slots + 1)) 5 (used + moved)
           → clock′ ≡ tidyClock clock moved
@@ -84,67 +82,110 @@ module _ (clock : List ℕ) (c : Clock) (e : c ≡ clockIn clock) where
           q ∙ ap₂ (λ (k m : ℕ). set (set (set (set clock 2 k) 3 m) 4 (slots + 1)) 5 (used + moved)) next-stamp next-rows
           ∙ ap₂ (λ (k m : ℕ). set (set (set (set clock 2 (stampIn clock + 1)) 3 (rowsIn clock)) 4 (k + 1)) 5 (m + moved)) s u
 
-      pub tidy-said : said (At (next .stamp) moved) ≡ numbers ((stampIn clock + 1) ∷ moved ∷ [])
+      pub tidy-said : said (At (next .stamp) (record { 0 = moved })) ≡ numbers ((stampIn clock + 1) ∷ moved ∷ [])
       tidy-said = ap (λ (k : ℕ). numbers (k ∷ moved ∷ [])) next-stamp
 
 -- ---- all tables after it
 
+module _ (clock log moved : List ℕ) (s : ℕ) where
+  pub plan-ticks : Plannable clock log s moved → (c : Clock) → c ≡ clockIn clock → c .stamp .0 < 4294967295
+  plan-ticks f c e = stamp-fits clock c e (f .stamp-low)
+
+  pub plan-count : Plannable clock log s moved → (n : ℕ) → n ≡ countOf moved → n < 4294967296
+  plan-count f n e = omega (arith, f .few-moved)
+
+  pub plan-is : (c next : Clock) (slot used wide to n m : ℕ) → c ≡ clockIn clock → next ≡ later c (c .rows) → slot ≡ slotsIn clock
+      → used ≡ changesIn clock → wide ≡ used → to ≡ endAt log s → n ≡ countOf moved → m ≡ n
+      → record { next = next; slot = slot; used = wide; to = to; count = m } ≡ planOf clock log s moved
+  unfolding planOf
+  plan-is c next slot used wide to n m e h k u w t a b = rw (h, e, k, w, u, t, b, a)
+
 module _ (clock slots words heads log changes moved : List ℕ) (s v : ℕ) (f : TidyReady clock slots words heads log changes s v moved) where
-  pub version-fillable : (k : ℕ) → k ≡ slotsIn clock → Fillable slots words heads log changes k s v
-  version-fillable k e =
+  pub plannable : Plannable clock log s moved
+  plannable =
       let g = f .tidyable in
       record {
-        based = g .based;
-        words-room = g .room .words-room;
-        slot-low = omega (arith, f .slot-low);
+        clock-room = g .room .clock-room;
+        log-room = g .room .log-room;
+        stamp-low = f .stamp-low;
         start-low = omega (arith, g .start-old, f .stamp-low);
-        rows = g .rows;
+        few-moved = omega (arith, f .places-low);
       }
 
-  pub moved-puttable : (used wide to : ℕ) → used ≡ changesIn clock → wide ≡ used → to ≡ endAt log s → Puttable changes wide to v (countOf moved)
-  moved-puttable used wide to u w e =
-      let g = f .tidyable in
-      record {
-        changes-room = g .room .changes-room;
-        old-before = omega (arith, g .end-old);
-        places-low = omega (arith, f .places-low);
-        value-low = g .based .headed .value-low;
-      }
+  module _ (p : Plan) (e : p ≡ planOf clock log s moved) where
+    slot-is : p .slot ≡ slotsIn clock
+    unfolding planOf
+    slot-is = ap (λ (x : Plan). x .slot) e
 
-  pub start-fits : s ≤ 512
-  start-fits = omega (arith, f .tidyable .start-old, f .stamp-low)
+    used-is : p .used ≡ changesIn clock
+    unfolding planOf
+    used-is = ap (λ (x : Plan). x .used) e
 
-  pub stamp-next-fits : (c : Clock) → c ≡ clockIn clock → c .stamp .0 + 1 < 4294967296
-  stamp-next-fits c e = omega (arith, stamp-is clock c e, f .stamp-low)
+    to-is : p .to ≡ endAt log s
+    unfolding planOf
+    to-is = ap (λ (x : Plan). x .to) e
 
-  module _ (n m : ℕ) (a : n ≡ countOf moved) (b : m ≡ n) where
-    pub count-fits : n < 4294967296
-    count-fits = omega (arith, f .places-low)
+    count-is : p .count ≡ countOf moved
+    unfolding planOf
+    count-is = ap (λ (x : Plan). x .count) e
 
-    pub tidy-writes : (6 ≤ length clock) × (2048 ≤ length log) × (stampIn clock < 512) × (changesIn clock + m ≤ 2048) × (slotsIn clock < 96)
-    tidy-writes = (f .tidyable .room .clock-room, f .tidyable .room .log-room, f .stamp-low, omega (arith, f .places-low), f .slot-low)
+    next-is : p .next ≡ later (clockIn clock) (clockIn clock .rows)
+    unfolding planOf
+    next-is = ap (λ (x : Plan). x .next) e
 
-  pub tidy-done : (c : Clock) (k used wide n m to p : ℕ) (clock′ slots′ words′ heads′ log′ changes′ : List ℕ) (r : Answer) → c ≡ clockIn clock → k ≡ slotsIn clock
-      → used ≡ changesIn clock → wide ≡ used → n ≡ countOf moved → m ≡ n → to ≡ endAt log s
-      → VersionPut slots words heads log changes k (c .stamp .0 + 1) s v slots′ words′ heads′ → RowsPut (rowsOf moved) wide to v changes changes′ p
-      → (clock′ ≡ tidyClock clock m) × (log′ ≡ tidyLog clock log m) × (said r ≡ numbers ((stampIn clock + 1) ∷ m ∷ []))
-      → Tidied (tables clock slots words heads log changes) (tables clock′ slots′ words′ heads′ log′ changes′) s v moved r
-  unfolding tidiedCells
-  tidy-done c k used wide n m to p clock′ slots′ words′ heads′ log′ changes′ r e q u w a b o x y z = λ ts.
-      rw (
-        z .0,
-        z .1,
-        z .2,
-        b ∙ a,
-        x .slots-are,
-        x .words-are,
-        x .heads-are,
-        y .stored,
-        q,
-        w ∙ u,
-        o,
-        stamp-is clock c e,
-      )
+    pub version-fillable : Fillable slots words heads log changes (p .slot) s v
+    version-fillable =
+        let g = f .tidyable in
+        record {
+          based = g .based;
+          words-room = g .room .words-room;
+          slot-low = omega (arith, f .slot-low, slot-is);
+          start-low = omega (arith, g .start-old, f .stamp-low);
+          rows = g .rows;
+        }
+
+    pub moved-puttable : Puttable changes (p .used) (p .to) v (countOf moved)
+    moved-puttable =
+        let g = f .tidyable in
+        record {
+          changes-room = g .room .changes-room;
+          old-before = omega (arith, g .end-old, to-is, used-is);
+          places-low = omega (arith, f .places-low, used-is);
+          value-low = g .based .headed .value-low;
+        }
+
+    pub tidy-writes : (p .next ≡ later (clockIn clock) (clockIn clock .rows)) × (6 ≤ length clock) × (2048 ≤ length log) × (stampIn clock < 512)
+        × (changesIn clock + p .count ≤ 2048) × (slotsIn clock < 96)
+    tidy-writes = (
+      next-is,
+      f .tidyable .room .clock-room,
+      f .tidyable .room .log-room,
+      f .stamp-low,
+      omega (arith, f .places-low, count-is),
+      f .slot-low,
+    )
+
+    pub tidy-done : (z : ℕ) (clock′ slots′ words′ heads′ log′ changes′ : List ℕ) (r : Answer)
+        → VersionPut slots words heads log changes (p .slot) (p .next .stamp .0) s v slots′ words′ heads′
+        → RowsPut (rowsOf moved) (p .used) (p .to) v changes changes′ z
+        → (clock′ ≡ tidyClock clock (p .count)) × (log′ ≡ tidyLog clock log (p .count)) × (said r ≡ numbers ((stampIn clock + 1) ∷ p .count ∷ []))
+        → Tidied (tables clock slots words heads log changes) (tables clock′ slots′ words′ heads′ log′ changes′) s v moved r
+    unfolding tidiedCells later clockIn
+    tidy-done z clock′ slots′ words′ heads′ log′ changes′ r x y w = λ ts.
+        rw (
+          w .0,
+          w .1,
+          w .2,
+          count-is,
+          x .slots-are,
+          x .words-are,
+          x .heads-are,
+          y .stored,
+          slot-is,
+          used-is,
+          to-is,
+          next-is,
+        )
 
 -- ---- its own tests
 
@@ -173,11 +214,11 @@ module _ (clock slots words heads log changes : List ℕ) (s v to : ℕ) (moved 
   why-is : whyOf go ≡ firstOf (tidyTests clock slots heads log changes s v (movedIn log changes s v))
   why-is = q ∙ ap (λ (w : List ℕ). firstOf (tidyTests clock slots heads log changes s v w)) moved-is
 
-  pub tidy-refuses : (why : Refusal) (d : Done) → go ≡ No why → d ≡ refusing why → Tidies lent lent s v d
+  pub tidy-refuses : (why : Refusal) → go ≡ No why → Tidies lent lent s v (answer.No why)
   unfolding tidyCells unless
-  tidy-refuses why d h k = λ ts.
+  tidy-refuses why h = λ ts.
       let o = tidiedCells (lent ts) s v (movedIn log changes s v) in
-      refusing-resat (lent ts) d why k ∙ ap (λ (w : Option ℕ). unless w (lent ts) o) (sym (ap whyOf h) ∙ why-is)
+      ap (λ (w : Option ℕ). unless w (lent ts) [] o) (sym (ap whyOf h) ∙ why-is)
 
   module _ (h : go ≡ Passed) where
     pub tidy-ready : Tidyable clock slots words heads log changes s v → TidyReady clock slots words heads log changes s v moved
@@ -185,12 +226,12 @@ module _ (clock slots words heads log changes : List ℕ) (s v to : ℕ) (moved 
         let p = passing clock slots heads log changes s v moved (sym q ∙ ap whyOf h) in
         record { tidyable = f; stamp-low = p .stamp-low; places-low = p .places-low; slot-low = p .slot-low }
 
-    pub tidy-answers : (after : List Session → Tables) (r : Answer) (d : Done) → Tidied lent after s v moved r → d ≡ plainly r → Tidies lent after s v d
+    pub tidy-answers : (after : List Session → Tables) (r : Answer) → Tidied lent after s v moved r → Tidies lent after s v r
     unfolding tidyCells unless
-    tidy-answers after r d f k = λ ts.
+    tidy-answers after r f = λ ts.
         let o = tidiedCells (lent ts) s v (movedIn log changes s v) in
-        plainly-resat (after ts) d r k ∙ f ts ∙ ap (tidiedCells (lent ts) s v) moved-is
-        ∙ ap (λ (w : Option ℕ). unless w (lent ts) o) (sym (ap whyOf h) ∙ why-is)
+        f ts ∙ ap (tidiedCells (lent ts) s v) moved-is
+        ∙ ap (λ (w : Option ℕ). unless w (lent ts) [] o) (sym (ap whyOf h) ∙ why-is)
 
 -- what `ready` needs, and the rows that it is given
 module _ (clock slots words heads log changes : List ℕ) (s v : ℕ) (f : Tidyable clock slots words heads log changes s v) where
@@ -216,7 +257,7 @@ module _ (clock slots words heads log changes : List ℕ) (s v : ℕ) (f : Tidya
 -- ---- the call
 
 -- what is refused does not matter
-unless-same : (o : Option ℕ) (t : Tables) (a b : Outcome) → (o ≡ none → a ≡ b) → unless o t a ≡ unless o t b
+unless-same : (o : Option ℕ) (t : Tables) (a b : Outcome) → (o ≡ none → a ≡ b) → unless o t [] a ≡ unless o t [] b
 unfolding unless
 unless-same none t a b h = h refl
 unless-same (some n) t a b h = refl
@@ -233,19 +274,17 @@ module _ (clock slots words heads log changes : List ℕ) (x : Seat) (n v : ℕ)
   abbrev given : List Session → Tables
   given = tables clock slots words heads log changes
 
-  pub tidy-refused : (why : Refusal) (d : Done) → test ≡ No why → d ≡ refusing why → Serves given given (λ t. tidyOf t n v) x n d
+  pub tidy-refused : (why : Refusal) → test ≡ No why → Serves given given [] x n untouched (answer.No why) (λ t. tidyOf t n v)
   unfolding tidyOf tests
-  tidy-refused why d h k =
-      valued-refused clock slots words heads log changes x n (tidy n v)
-      (λ t. let s = own t n .start .0 in outcome (stores t (tidyStores t s v)) (numbers ((stampIn (t .clock) + 1) ∷ length (moved (meaning t .log) s v) ∷ []))) test why h d k
-      (λ t. restOf t n v) v (λ t. refl) q
+  tidy-refused why h =
+      valued-refused clock slots words heads log changes [] x n (tidy n v)
+      (λ t. let s = own t n .start .0 in
+      outcome (stores t (tidyStores t s v)) [] (numbers ((stampIn (t .clock) + 1) ∷ length (moved (meaning t .log) s v) ∷ [])))
+      test why h untouched (answer.No why) (idle _ _ refl) (λ t. restOf t n v) v (λ t. refl) q
 
   module _ (h : test ≡ Passed) where
     valued : Valued clock slots words heads log changes (x .session) n v
     valued = valued-passed clock slots words heads log changes x n test h v q
-
-    pub value-cast : v < 4294967296
-    value-cast = omega (arith, valued .value-low, clock-limits clock (parts (bare clock slots words heads log changes) (valued .good) .clock-fits) .few-values)
 
     pub tidyable : Tidyable clock slots words heads log changes (x .session .start .0) v
     tidyable =
@@ -274,19 +313,20 @@ module _ (clock slots words heads log changes : List ℕ) (x : Seat) (n v : ℕ)
           end-old = end-high clock log (p .records-fit) s (y .start-old);
         }
 
-    pub tidy-served : (after : List Session → Tables) (d : Done) → Tidies given after (x .session .start .0) v d → Serves given after (λ t. tidyOf t n v) x n d
+    pub tidy-served : (after : List Session → Tables) (a : Answer) → Tidies given after (x .session .start .0) v a
+        → Serves given after [] x n untouched a (λ t. tidyOf t n v)
     unfolding tidyOf tidyCells tests
-    tidy-served after d f = λ ts e.
+    tidy-served after a f = λ ts e.
         let t = given ts in
         let s = x .session .start .0 in
         let g = valued-goes t n x e (tidy n v) (restOf t n v) test v refl q h in
         let w = valued-shows t n x e (tidy n v) (restOf t n v) test v refl q h in
-        let o : ℕ → Outcome = λ k. outcome (stores t (tidyStores t k v)) (numbers ((stampIn (t .clock) + 1) ∷ length (moved (meaning t .log) k v) ∷ [])) in
+        let o : ℕ → Outcome = λ k. outcome (stores t (tidyStores t k v)) [] (numbers ((stampIn (t .clock) + 1) ∷ length (moved (meaning t .log) k v) ∷ [])) in
         let low : s ≤ stampIn clock = w .facts .start-old in
         let ts₀ = firstOf (tidyTests clock slots heads log changes s v (movedIn log changes s v)) in
         f ts
         ∙ unless-same ts₀ t (tidiedCells t s v (movedIn log changes s v)) (o s)
         (λ z. cells-meet t (g .good) s low v (valued .value-low) (room-facts t (g .room) .words-room) (passing clock slots heads log changes s v (movedIn log changes s v) z .slot-low))
-        ∙ ap₂ (λ (r : Option ℕ) (k : ℕ). unless r t (o k))
+        ∙ ap₂ (λ (r : Option ℕ) (k : ℕ). unless r t [] (o k))
         (tests-meet t (g .good) s low v (valued .value-low) (session (meaning t) n) (w .start-means) ∙ sym (g .rest-decides))
         (ap (λ (y : Session). y .start .0) (sym (w .own-there)))

@@ -173,7 +173,7 @@ module _ (t : Tables) (good : sound t ≡ true) (s : ℕ) (low : s ≤ stampIn (
         (version-stores t (32 * k) ws k v stamp link) (changesIn (t .clock)) cs (stampIn (t .clock)) 2 (rowsIn (t .clock)) end
 
     pub cells-meet : 3072 ≤ length (t .words) → slotsIn (t .clock) < 96
-        → tidiedCells t s v rows ≡ outcome (stores t (tidyStores t s v)) (numbers ((stampIn (t .clock) + 1) ∷ length (moved (meaning t .log) s v) ∷ []))
+        → tidiedCells t s v rows ≡ outcome (stores t (tidyStores t s v)) [] (numbers ((stampIn (t .clock) + 1) ∷ length (moved (meaning t .log) s v) ∷ []))
     unfolding tidiedCells
     cells-meet room slot =
         let k = slotsIn (t .clock) in
@@ -186,7 +186,7 @@ module _ (t : Tables) (good : sound t ≡ true) (s : ℕ) (low : s ≤ stampIn (
         outcome
         (tables (tidyClock (t .clock) n) (putSlot (t .slots) k v (stampIn (t .clock) + 1) (headOf (t .heads) v + 1)) ws (putHead (t .heads) v k)
         (tidyLog (t .clock) (t .log) n) (putChanges (t .changes) (changesIn (t .clock)) cs) (t .sessions))
-        (numbers ((stampIn (t .clock) + 1) ∷ m ∷ [])) in
+        [] (numbers ((stampIn (t .clock) + 1) ∷ m ∷ [])) in
         ap₂ (λ (ws : List ℕ) (cs : List Change). full (countOf rows) ws cs (countOf rows)) w changes-meet
         ∙ ap₂ (λ (n m : ℕ). full n (sets (t .words) (32 * k) (vec f 32)) (tidyChanges (meaning t .log) s v) m) (sym length-tidied) count-moved
-        ∙ ap (λ (u : Tables). outcome u (numbers ((stampIn (t .clock) + 1) ∷ length (moved (meaning t .log) s v) ∷ []))) (sym stored)
+        ∙ ap (λ (u : Tables). outcome u [] (numbers ((stampIn (t .clock) + 1) ∷ length (moved (meaning t .log) s v) ∷ []))) (sym stored)

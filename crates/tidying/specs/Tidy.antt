@@ -16,6 +16,7 @@ use Rattle.rules.specs.Log.{someChange}
 use Rattle.rules.specs.Refusals.{Test, firstOf}
 use Rattle.tables.specs.declared.session.Session.{Session}
 use Rattle.tables.specs.Cells.{Tables, tables, stampIn, rowsIn, slotsIn, changesIn, slotStamp, headOf, endAt}
+use Rattle.tables.specs.Clock.{clockIn, later}
 use Rattle.tables.specs.Meaning.{changeAt}
 use Rattle.tables.specs.Stores.{putSlot, putHead, putRecord}
 use Rattle.tables.specs.Stretch.{stretch}
@@ -25,10 +26,9 @@ use Rattle.history.specs.Last.{lastSet}
 use Rattle.history.specs.Flips.{flippedIn, RowsLow}
 use Rattle.history.specs.Query.{queriedAt}
 use Rattle.calls.specs.declared.answers.Answer.{Answer}
-use Rattle.calls.specs.declared.answers.Done.{Done}
+use Rattle.tidying.specs.declared.tidy.Plan.{Plan}
 use Rattle.calls.specs.Said.{said, numbers}
 use Rattle.calls.specs.Outcome.{Outcome, outcome, unless}
-use Rattle.calls.specs.Seats.{resat}
 use Rattle.calls.specs.Stores.{putChanges}
 
 -- ---- 14
@@ -119,6 +119,24 @@ pub record TidyReady (clock slots words heads log changes : List ℕ) (s v : ℕ
   pub places-low : changesIn clock + countOf moved ≤ 2048
   pub slot-low : slotsIn clock < 96
 
+-- what is worked out of it before anything is written: the clock after it, its slot, where its changes start, where those up to s
+-- end, how many rows move
+pub record Plannable (clock log : List ℕ) (s : ℕ) (moved : List ℕ) : Type 0 where
+  pub clock-room : 6 ≤ length clock
+  pub log-room : 2048 ≤ length log
+  pub stamp-low : stampIn clock < 512
+  pub start-low : s ≤ 512
+  pub few-moved : countOf moved ≤ 2048
+
+unfoldable pub planOf : List ℕ → List ℕ → ℕ → List ℕ → Plan
+planOf clock log s moved = record {
+  next = later (clockIn clock) (clockIn clock .rows);
+  slot = slotsIn clock;
+  used = changesIn clock;
+  to = endAt log s;
+  count = countOf moved;
+}
+
 -- the rows that it moves
 unfoldable pub movedIn : List ℕ → List ℕ → ℕ → ℕ → List ℕ
 movedIn log changes s v = vec (flippedIn changes 0 (endAt log s) v) 32
@@ -140,17 +158,17 @@ tidiedCells t s v moved =
     (putPart (32 * k) (vec (queriedAt (t .slots) (t .words) (t .heads) (t .log) (t .changes) s v) 32) (t .words)) (putHead (t .heads) v k)
     (tidyLog (t .clock) (t .log) (countOf moved))
     (putChanges (t .changes) (changesIn (t .clock)) (map (lessAt (t .changes) (endAt (t .log) s) v) (rowsOf moved))) (t .sessions))
-    (numbers ((stampIn (t .clock) + 1) ∷ countOf moved ∷ []))
+    [] (numbers ((stampIn (t .clock) + 1) ∷ countOf moved ∷ []))
 
 -- a tidy that is done, whatever the session table is
 abbrev pub Tidied : (List Session → Tables) → (List Session → Tables) → ℕ → ℕ → List ℕ → Answer → Type 0
-Tidied before after s v moved a = (ts : List Session) → outcome (after ts) (said a) ≡ tidiedCells (before ts) s v moved
+Tidied before after s v moved a = (ts : List Session) → outcome (after ts) [] (said a) ≡ tidiedCells (before ts) s v moved
 
 -- a tidy that its own tests may refuse
 unfoldable pub tidyCells : Tables → ℕ → ℕ → Outcome
 tidyCells t s v =
     let moved = movedIn (t .log) (t .changes) s v in
-    unless (firstOf (tidyTests (t .clock) (t .slots) (t .heads) (t .log) (t .changes) s v moved)) t (tidiedCells t s v moved)
+    unless (firstOf (tidyTests (t .clock) (t .slots) (t .heads) (t .log) (t .changes) s v moved)) t [] (tidiedCells t s v moved)
 
-abbrev pub Tidies : (List Session → Tables) → (List Session → Tables) → ℕ → ℕ → Done → Type 0
-Tidies before after s v d = (ts : List Session) → outcome (resat (after ts) d) (said (d .answer)) ≡ tidyCells (before ts) s v
+abbrev pub Tidies : (List Session → Tables) → (List Session → Tables) → ℕ → ℕ → Answer → Type 0
+Tidies before after s v a = (ts : List Session) → outcome (after ts) [] (said a) ≡ tidyCells (before ts) s v

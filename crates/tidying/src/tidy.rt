@@ -1,6 +1,5 @@
-// Tidy. Assumes nothing.
+// Tidy.
 use calls::Answer;
-use calls::Done;
 use calls::Test;
 use lent::Seat;
 use tables::Clock;
@@ -19,14 +18,15 @@ ghost use Rattle.bits.specs.Vec.{vec};
 ghost use Rattle.bits.specs.Words.{xorWords};
 ghost use Rattle.rules.specs.Refusals.{firstOf};
 ghost use Rattle.tables.specs.Cells.{tables, slotWords, stampIn, slotsIn, changesIn, headOf};
+ghost use Rattle.tables.specs.Clock.{clockIn, later};
 ghost use Rattle.tables.specs.Stores.{putSlot, putHead};
 ghost use Rattle.history.specs.Query.{queriedAt};
 ghost use Rattle.history.specs.Version.{Headed};
 ghost use Rattle.calls.specs.Said.{said, numbers};
 ghost use Rattle.calls.specs.Calls.{tidyOf};
-ghost use Rattle.calls.specs.Seats.{Serves};
+ghost use Rattle.calls.specs.Seats.{Serves, untouched};
 ghost use Rattle.calls.specs.Enter.{whyOf};
-ghost use Rattle.tidying.specs.Tidy.{touchedIn, staleAt, Datable, tidyTests, RowsPut, wordRows, Puttable, Fillable, VersionPut, Tidyable, TidyReady, tidyClock, tidyLog, Tidied, Tidies};
+ghost use Rattle.tidying.specs.Tidy.{touchedIn, staleAt, Datable, tidyTests, RowsPut, wordRows, Puttable, Fillable, VersionPut, Tidyable, TidyReady, Plannable, planOf, tidyClock, tidyLog, Tidied, Tidies};
 
 // Whether one of the changes from `from` to `to` names a moved row or has v.
 fn touched(changes: &[u32], from: usize, to: usize, moved: &[u64; 32], v: Value) -> bool
@@ -201,20 +201,19 @@ fn write_counts(clock: &mut [u32], c: Clock, slots: u32, changes: u32)
 }
 
 // The record of a tidy and the clock after it are written.
-fn write_tidy(clock: &mut [u32], log: &mut [u32], moved: u32) -> Answer
-    requires { ⌜ (6 ≤ length (now clock)) × (2048 ≤ length (now log)) × (stampIn (now clock) < 512) × (changesIn (now clock) + moved ≤ 2048) × (slotsIn (now clock) < 96) ⌝ }
+fn write_tidy(clock: &mut [u32], log: &mut [u32], next: Clock, moved: u32) -> Answer
+    requires { ⌜ (next ≡ later (clockIn (now clock)) (clockIn (now clock) .rows)) × (6 ≤ length (now clock)) × (2048 ≤ length (now log)) × (stampIn (now clock) < 512) × (changesIn (now clock) + moved ≤ 2048) × (slotsIn (now clock) < 96) ⌝ }
     ensures { λ r. ⌜ (now (clock .exit) ≡ tidyClock (now (clock .entry)) moved) × (now (log .exit) ≡ tidyLog (now (clock .entry)) (now (log .entry)) moved) × (said r ≡ numbers ((stampIn (now (clock .entry)) + 1) ∷ moved ∷ [])) ⌝ }
 {
     let c = tables::clock_of(clock);
     let before = c.stamp;
-    let rows = c.rows;
+    let stamp = next.stamp;
+    let rows = next.rows;
     let end = tables::changes_used(clock) + moved;
     let slots = tables::slots_used(clock) + 1;
-    let next = lent::ticked(c, rows);
-    let stamp = next.stamp;
     tables::put_record(log, before, 2, rows, end);
     write_counts(clock, next, slots, end);
-    Answer::At(stamp, moved)
+    Answer::At(stamp, Row(moved))
 }
 
 // The refusals 13, 14, 16, 17 and 18.
@@ -240,16 +239,47 @@ fn ready(
     if stale(slots, heads, log, changes, stamp, s, v, moved) {
         return Test::No(Refusal::Stale);
     }
-    if 512 <= stamp.0 {
+    if tables::MAX_RECORDS <= stamp.0 {
         return Test::No(Refusal::RecordsFull);
     }
     if 2048 < bits::wide(tables::changes_used(clock)) + count {
         return Test::No(Refusal::ChangesFull);
     }
-    if 96 <= tables::slots_used(clock) {
+    if tables::MAX_SLOTS <= tables::slots_used(clock) {
         return Test::No(Refusal::SlotsFull);
     }
     Test::Passed
+}
+
+// What an accepted tidy comes to, before it writes: the clock after it, its slot, where its changes start, where those up to its
+// session's start end, and how many rows it moves.
+pub struct Plan {
+    pub next: Clock,
+    pub slot: u32,
+    pub used: usize,
+    pub to: usize,
+    pub count: u32,
+}
+
+// The plan of a tidy at s.
+fn planned(clock: &[u32], log: &[u32], s: Stamp, moved: &[u64; 32]) -> Plan
+    requires { ⌜ Plannable (now clock) (now log) (s .0) (now moved) ⌝ }
+    ensures { λ r. ⌜ r ≡ planOf (now (clock .entry)) (now (log .entry)) (s .0) (now (moved .entry)) ⌝ }
+{
+    let c = tables::clock_of(clock);
+    let rows = c.rows;
+    let next = lent::ticked(c, rows);
+    let slot = tables::slots_used(clock);
+    let used = bits::wide(tables::changes_used(clock));
+    let to = tables::end_at(log, s);
+    let count = bits::narrow(bits::count(moved));
+    Plan {
+        next: next,
+        slot: slot,
+        used: used,
+        to: to,
+        count: count,
+    }
 }
 
 // A tidy that is not refused.
@@ -267,16 +297,12 @@ fn tidy_work(
     requires { ⌜ TidyReady (now clock) (now slots) (now words) (now heads) (now log) (now changes) (s .0) (v .0) (now moved) ⌝ }
     ensures { λ r. ⌜ Tidied (tables (now (clock .entry)) (now (slots .entry)) (now (words .entry)) (now (heads .entry)) (now (log .entry)) (now (changes .entry))) (tables (now (clock .exit)) (now (slots .exit)) (now (words .exit)) (now (heads .exit)) (now (log .exit)) (now (changes .exit))) (s .0) (v .0) (now (moved .entry)) r ⌝ }
 {
-    let c = tables::clock_of(clock);
-    let stamp = c.stamp;
-    let k = tables::slots_used(clock);
-    let used = bits::wide(tables::changes_used(clock));
-    let count = bits::narrow(bits::count(moved));
-    let to = tables::end_at(log, s);
-    let next = stamp.0 + 1;
-    write_version(slots, words, heads, log, changes, k, Stamp(next), s, v);
-    write_moved(changes, used, to, moved, v);
-    write_tidy(clock, log, count)
+    let plan = planned(clock, log, s, moved);
+    let next = plan.next;
+    let stamp = next.stamp;
+    write_version(slots, words, heads, log, changes, plan.slot, stamp, s, v);
+    write_moved(changes, plan.used, plan.to, moved, v);
+    write_tidy(clock, log, next, plan.count)
 }
 
 // Tidy of v at s on undamaged tables.
@@ -289,29 +315,19 @@ fn tidy_at(
     changes: &mut [u32],
     s: Stamp,
     v: Value,
-) -> Done
+) -> Answer
     requires { ⌜ Tidyable (now clock) (now slots) (now words) (now heads) (now log) (now changes) (s .0) (v .0) ⌝ }
     ensures { λ r. ⌜ Tidies (tables (now (clock .entry)) (now (slots .entry)) (now (words .entry)) (now (heads .entry)) (now (log .entry)) (now (changes .entry))) (tables (now (clock .exit)) (now (slots .exit)) (now (words .exit)) (now (heads .exit)) (now (log .exit)) (now (changes .exit))) (s .0) (v .0) r ⌝ }
 {
     let moved = history::flips(changes, 0, tables::end_at(log, s), v);
     let go = ready(clock, slots, heads, log, changes, s, v, &moved);
     match go {
-        Test::No(why) => calls::refused(why),
-        Test::Passed => calls::answered(tidy_work(
-            clock,
-            slots,
-            words,
-            heads,
-            log,
-            changes,
-            s,
-            v,
-            &moved,
-        )),
+        Test::No(why) => Answer::No(why),
+        Test::Passed => tidy_work(clock, slots, words, heads, log, changes, s, v, &moved),
     }
 }
 
-// Tidy.
+// Tidy: the stamp after it and how many rows moved.
 pub fn tidy_in(
     clock: &mut [u32],
     slots: &mut [u32],
@@ -321,27 +337,15 @@ pub fn tidy_in(
     changes: &mut [u32],
     seat: Seat,
     n: u64,
-    v: u64,
-) -> Done
-    ensures { λ r. ⌜ Serves (tables (now (clock .entry)) (now (slots .entry)) (now (words .entry)) (now (heads .entry)) (now (log .entry)) (now (changes .entry))) (tables (now (clock .exit)) (now (slots .exit)) (now (words .exit)) (now (heads .exit)) (now (log .exit)) (now (changes .exit))) (λ t. tidyOf t n v) seat n r ⌝ }
+    v: Value,
+) -> Answer
+    ensures { λ r. ⌜ Serves (tables (now (clock .entry)) (now (slots .entry)) (now (words .entry)) (now (heads .entry)) (now (log .entry)) (now (changes .entry))) (tables (now (clock .exit)) (now (slots .exit)) (now (words .exit)) (now (heads .exit)) (now (log .exit)) (now (changes .exit))) [] seat n untouched r (λ t. tidyOf t n (v .0)) ⌝ }
 {
     let s = seat.session;
     let start = s.start;
     let test = calls::valued(clock, slots, words, heads, log, changes, seat, n, v);
     match test {
-        Test::No(why) => calls::refused(why),
-        Test::Passed => {
-            let value = v as u32;
-            tidy_at(
-                clock,
-                slots,
-                words,
-                heads,
-                log,
-                changes,
-                start,
-                Value(value),
-            )
-        }
+        Test::No(why) => Answer::No(why),
+        Test::Passed => tidy_at(clock, slots, words, heads, log, changes, start, v),
     }
 }

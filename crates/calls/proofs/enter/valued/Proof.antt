@@ -20,9 +20,6 @@ returns c = search valued-stays
 clock-of-requires : tie.Need-clock-of-requires
 clock-of-requires c κs = search opened-clock
 
-cast-if1 : tie.Need-cast-if1
-cast-if1 c = search needs
-
 returns-2 : tie.Need-returns-2
 returns-2 c = search no-value
 
@@ -38,6 +35,5 @@ valued-spec =
     enum-told-2
     returns
     clock-of-requires
-    cast-if1
     returns-2
     returns-3)

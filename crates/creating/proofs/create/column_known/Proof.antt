@@ -14,6 +14,9 @@ Inv-loop column c n ok₀ r₀ ok r = (r ≤ length column) × (ok ≡ knownTo c
 abbrev μ-loop : tie.MeasureT-loop
 μ-loop column c n ok₀ r₀ ok r = length column - r
 
+cast-c : tie.Need-cast-c Inv-loop μ-loop
+cast-c c = search needs
+
 loop-holds : tie.Need-loop-holds Inv-loop μ-loop
 loop-holds c = (search needs, search known-none)
 
@@ -35,4 +38,4 @@ returns c = search known-all
 pub column-known-spec : {M : Type 1} → statement M
 column-known-spec =
     tie.close
-    (tie.spec Inv-loop μ-loop loop-holds shared-slice-read-b add-r loop-less loop-again returns)
+    (tie.spec Inv-loop μ-loop cast-c loop-holds shared-slice-read-b add-r loop-less loop-again returns)

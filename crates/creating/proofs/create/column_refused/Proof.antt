@@ -11,11 +11,11 @@ returns c = search bad-none
 returns-2 : tie.Need-returns-2
 returns-2 c = search bad-many
 
+cast-if3 : tie.Need-cast-if3
+cast-if3 c = search needs
+
 returns-3 : tie.Need-returns-3
 returns-3 c = search bad-long
-
-cast-column-known : tie.Need-cast-column-known
-cast-column-known c = search needs
 
 column-known-requires : tie.Need-column-known-requires
 column-known-requires c κs = search needs
@@ -26,4 +26,10 @@ returns-4 c = search bad-bytes
 pub column-refused-spec : {M : Type 1} → statement M
 column-refused-spec =
     tie.close
-    (tie.spec returns returns-2 returns-3 cast-column-known column-known-requires returns-4)
+    (tie.spec
+    returns
+    returns-2
+    cast-if3
+    returns-3
+    column-known-requires
+    returns-4)

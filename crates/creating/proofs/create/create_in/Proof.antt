@@ -1,12 +1,15 @@
 -- `create::create_in` meets its contract.
 -- Assumes nothing.
-use Rattle.creating.proofs.CreateLaws.{create-no-room, create-refused, creatable, values-fit, create-done}
+use Rattle.creating.proofs.CreateLaws.{create-no-room, create-refused, creatable, create-done}
 use borrow.Author.Needs.{needs}
 use Rattle.creating.proofs.create.create_in.Statement.{statement}
 use Rattle.creating.proofs.create.create_in.Tie as tie
 
 room-requires : tie.Need-room-requires
 room-requires c κs = search needs
+
+none-freed-requires : tie.Need-none-freed-requires
+none-freed-requires c κs = search needs
 
 same-length : tie.Need-same-length
 same-length c = search needs
@@ -27,10 +30,16 @@ same-length-6 : tie.Need-same-length-6
 same-length-6 c = search needs
 
 returns : tie.Need-returns
-returns c = create-no-room _ _ _ _ _ _ _ _ _ _ (c .before .room .ensures) (c .if1 .taken)
+returns c = create-no-room _ _ _ _ _ _ _ _ _ _ _ (c .before .before .room .ensures) (c .before .if1 .taken) (c .none-freed .ensures)
+
+value-of-requires : tie.Need-value-of-requires
+value-of-requires c κs = search needs
 
 column-refused-requires : tie.Need-column-refused-requires
 column-refused-requires c κs = search needs
+
+none-freed-requires-2 : tie.Need-none-freed-requires-2
+none-freed-requires-2 c κs = search needs
 
 same-length-7 : tie.Need-same-length-7
 same-length-7 c = search needs
@@ -51,13 +60,19 @@ same-length-12 : tie.Need-same-length-12
 same-length-12 c = search needs
 
 returns-2 : tie.Need-returns-2
-returns-2 c = create-refused _ _ _ _ _ _ _ _ _ _ (c .before .before .before .room .ensures) (c .before .before .if1 .left) _ (c .before .column-refused .ensures) (c .if2 .taken)
-
-cast-create-work : tie.Need-cast-create-work
-cast-create-work c = record { fits = values-fit _ _ _ _ _ _ _ _ (c .before .before .before .before .before .before .before .before .before .before .before .before .before .before .before .before .before .before .before .before .before .before .before .args .column .now) _ (c .before .before .before .before .before .before .before .before .before .room .ensures) (c .before .before .before .before .before .before .before .before .if1 .left) _ (c .before .before .before .before .before .before .before .column-refused .ensures) (c .before .before .before .before .before .before .if2 .left) }
+returns-2 c =
+    create-refused _ _ _ _ _ _ _ _ _ _ (c .before .before .before .before .before .room .ensures)
+    (c .before .before .before .before .if1 .left) _ (c .before .before .before .value-of .ensures) _
+    (c .before .before .column-refused .ensures) _ (c .before .if2 .taken) (c .none-freed2 .ensures)
 
 create-work-requires : tie.Need-create-work-requires
-create-work-requires c κs = creatable _ _ _ _ _ _ _ _ _ _ (c .before .before .before .before .before .before .before .before .before .room .ensures) (c .before .before .before .before .before .before .before .before .if1 .left) _ (c .before .before .before .before .before .before .before .column-refused .ensures) (c .before .before .before .before .before .before .if2 .left)
+create-work-requires c κs =
+    let k = c .before .before .before .before .before .before in
+    creatable _ _ _ _ _ _ _ _ _ _ (k .before .before .before .before .room .ensures) (k .before .before .before .if1 .left)
+    _ (k .before .before .value-of .ensures) _ (k .before .column-refused .ensures) (k .if2 .left)
+
+made-free-requires : tie.Need-made-free-requires
+made-free-requires c κs = search needs
 
 same-length-13 : tie.Need-same-length-13
 same-length-13 c = search needs
@@ -78,13 +93,19 @@ same-length-18 : tie.Need-same-length-18
 same-length-18 c = search needs
 
 returns-3 : tie.Need-returns-3
-returns-3 c = create-done _ _ _ _ _ _ _ _ _ _ (c .before .before .before .before .before .before .before .before .before .before .before .before .before .before .before .before .before .before .before .before .before .before .room .ensures) (c .before .before .before .before .before .before .before .before .before .before .before .before .before .before .before .before .before .before .before .before .before .if1 .left) _ (c .before .before .before .before .before .before .before .before .before .before .before .before .before .before .before .before .before .before .before .before .column-refused .ensures) (c .before .before .before .before .before .before .before .before .before .before .before .before .before .before .before .before .before .before .before .if2 .left) _ _ (c .before .before .before .before .before .before .before .before .before .before .before .before .create-work .ensures)
+returns-3 c =
+    let d = c .before .before .before .before .before .before .before .before .before .before .before .before .before in
+    let k = d .before .before .before .before .before .before .before in
+    create-done _ _ _ _ _ _ _ _ _ _ (k .before .before .before .before .room .ensures) (k .before .before .before .if1 .left)
+    _ (k .before .before .value-of .ensures) _ (k .before .column-refused .ensures) (k .if2 .left) _ _ _ (d .create-work .ensures)
+    (c .made-free .ensures)
 
 pub create-in-spec : {M : Type 1} → statement M
 create-in-spec =
     tie.close
     (tie.spec
     room-requires
+    none-freed-requires
     same-length
     same-length-2
     same-length-3
@@ -92,7 +113,9 @@ create-in-spec =
     same-length-5
     same-length-6
     returns
+    value-of-requires
     column-refused-requires
+    none-freed-requires-2
     same-length-7
     same-length-8
     same-length-9
@@ -100,8 +123,8 @@ create-in-spec =
     same-length-11
     same-length-12
     returns-2
-    cast-create-work
     create-work-requires
+    made-free-requires
     same-length-13
     same-length-14
     same-length-15

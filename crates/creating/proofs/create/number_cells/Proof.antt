@@ -1,4 +1,4 @@
--- `create::number_cells` meets its contract. The invariant: the cells before v are their own numbers. The measure is what is left of the c.
+-- `create::number_cells` meets its contract. The invariant: the cells before k are their own numbers. The measure is what is left of the C.
 -- Assumes nothing.
 use borrow.Author.Needs.{needs}
 use Rattle.creating.proofs.CreateLaws.{filled-to, number-more}
@@ -8,10 +8,10 @@ use Rattle.creating.proofs.create.number_cells.Statement.{statement}
 use Rattle.creating.proofs.create.number_cells.Tie as tie
 
 abbrev Inv-loop : tie.InvT-loop
-Inv-loop cells₀ c v₀ cells v = Filled (λ k. k) cells₀ cells v × (v ≤ c)
+Inv-loop cells₀ c k₀ cells k = Filled (λ i. i) cells₀ cells k × (k ≤ c)
 
 abbrev μ-loop : tie.MeasureT-loop
-μ-loop cells₀ c v₀ cells v = c - v
+μ-loop cells₀ c k₀ cells k = c - k
 
 loop-holds : tie.Need-loop-holds Inv-loop μ-loop
 loop-holds c = (search filled-none, search needs)
@@ -25,8 +25,8 @@ mul-cells c = search needs
 slice-write-cells : tie.Need-slice-write-cells Inv-loop μ-loop
 slice-write-cells c = search needs
 
-add-v : tie.Need-add-v Inv-loop μ-loop
-add-v c = search needs
+add-k : tie.Need-add-k Inv-loop μ-loop
+add-k c = search needs
 
 loop-less : tie.Need-loop-less Inv-loop μ-loop
 loop-less c = search needs
@@ -50,7 +50,7 @@ number-cells-spec =
     wide-requires
     mul-cells
     slice-write-cells
-    add-v
+    add-k
     loop-less
     loop-again
     same-length

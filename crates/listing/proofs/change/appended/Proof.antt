@@ -5,8 +5,8 @@ use Rattle.listing.proofs.ChangeLaws.{append-full, append-more}
 use Rattle.listing.proofs.change.appended.Statement.{statement}
 use Rattle.listing.proofs.change.appended.Tie as tie
 
-refused-requires : tie.Need-refused-requires
-refused-requires c κs = search needs
+not-put-back-requires : tie.Need-not-put-back-requires
+not-put-back-requires c κs = search needs
 
 returns : tie.Need-returns
 returns c = search append-full
@@ -20,11 +20,8 @@ add-with-entry c = search needs
 with-entry-requires : tie.Need-with-entry-requires
 with-entry-requires c κs = search needs
 
-add-t10 : tie.Need-add-t10
-add-t10 c = search needs
-
-seated-requires : tie.Need-seated-requires
-seated-requires c κs = search needs
+put-back-requires : tie.Need-put-back-requires
+put-back-requires c κs = search needs
 
 returns-2 : tie.Need-returns-2
 returns-2 c = search append-more
@@ -33,11 +30,10 @@ pub appended-spec : {M : Type 1} → statement M
 appended-spec =
     tie.close
     (tie.spec
-    refused-requires
+    not-put-back-requires
     returns
     wide-requires
     add-with-entry
     with-entry-requires
-    add-t10
-    seated-requires
+    put-back-requires
     returns-2)

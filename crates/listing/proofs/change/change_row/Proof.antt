@@ -5,17 +5,11 @@ use Rattle.listing.proofs.ChangeCores.{change-no-row, change-stands, ch
 use Rattle.listing.proofs.change.change_row.Statement.{statement}
 use Rattle.listing.proofs.change.change_row.Tie as tie
 
-cast-if1 : tie.Need-cast-if1
-cast-if1 c = search needs
-
-refused-requires : tie.Need-refused-requires
-refused-requires c κs = search needs
+not-put-back-requires : tie.Need-not-put-back-requires
+not-put-back-requires c κs = search needs
 
 returns : tie.Need-returns
 returns c = search change-no-row
-
-cast-t18 : tie.Need-cast-t18
-cast-t18 c = search needs
 
 spot-of-requires : tie.Need-spot-of-requires
 spot-of-requires c κs = search needs
@@ -29,8 +23,8 @@ enum-told c = search needs
 enum-told-2 : tie.Need-enum-told-2
 enum-told-2 c = search needs
 
-refused-requires-2 : tie.Need-refused-requires-2
-refused-requires-2 c κs = search needs
+not-put-back-requires-2 : tie.Need-not-put-back-requires-2
+not-put-back-requires-2 c κs = search needs
 
 returns-2 : tie.Need-returns-2
 returns-2 c = search change-absent
@@ -45,15 +39,13 @@ pub change-row-spec : {M : Type 1} → statement M
 change-row-spec =
     tie.close
     (tie.spec
-    cast-if1
-    refused-requires
+    not-put-back-requires
     returns
-    cast-t18
     spot-of-requires
     standing-requires
     enum-told
     enum-told-2
-    refused-requires-2
+    not-put-back-requires-2
     returns-2
     listed-requires
     returns-3)

@@ -1,7 +1,8 @@
 -- `change::delete_in` meets its contract: refused by the shared tests, or the rest of the call decides.
 -- Assumes nothing.
 use borrow.Author.Needs.{needs}
-use Rattle.listing.proofs.ChangeCores.{opened-usable, delete-refused, delete-on}
+use Rattle.listing.proofs.ChangeCores.{delete-refused, delete-on}
+use Rattle.calls.proofs.OpenLaws.{opened-usable}
 use Rattle.listing.proofs.change.delete_in.Statement.{statement}
 use Rattle.listing.proofs.change.delete_in.Tie as tie
 
@@ -11,8 +12,8 @@ opened-requires c κs = search needs
 enum-known-test : tie.Need-enum-known-test
 enum-known-test c = search needs
 
-refused-requires : tie.Need-refused-requires
-refused-requires c κs = search needs
+not-put-back-requires : tie.Need-not-put-back-requires
+not-put-back-requires c κs = search needs
 
 enum-told : tie.Need-enum-told
 enum-told c = search needs
@@ -32,7 +33,7 @@ delete-in-spec =
     (tie.spec
     opened-requires
     enum-known-test
-    refused-requires
+    not-put-back-requires
     enum-told
     change-row-requires
     returns

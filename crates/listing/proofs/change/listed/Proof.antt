@@ -14,8 +14,8 @@ wide-requires c κs = search needs
 with-entry-requires : tie.Need-with-entry-requires
 with-entry-requires c κs = search needs
 
-seated-requires : tie.Need-seated-requires
-seated-requires c κs = search needs
+put-back-requires : tie.Need-put-back-requires
+put-back-requires c κs = search needs
 
 returns : tie.Need-returns
 returns c = search target-there
@@ -33,7 +33,7 @@ listed-spec =
     short-requires
     wide-requires
     with-entry-requires
-    seated-requires
+    put-back-requires
     returns
     appended-requires
     returns-2)

@@ -11,17 +11,14 @@ opened-requires c κs = search needs
 enum-known-test : tie.Need-enum-known-test
 enum-known-test c = search needs
 
-refused-requires : tie.Need-refused-requires
-refused-requires c κs = search needs
+none-freed-requires : tie.Need-none-freed-requires
+none-freed-requires c κs = search needs
 
 enum-told : tie.Need-enum-told
 enum-told c = search needs
 
-free-session-requires : tie.Need-free-session-requires
-free-session-requires c κs = search needs
-
-seated-requires : tie.Need-seated-requires
-seated-requires c κs = search needs
+made-free-requires : tie.Need-made-free-requires
+made-free-requires c κs = search needs
 
 returns : tie.Need-returns
 returns c = search abort-refused
@@ -35,9 +32,8 @@ abort-in-spec =
     (tie.spec
     opened-requires
     enum-known-test
-    refused-requires
+    none-freed-requires
     enum-told
-    free-session-requires
-    seated-requires
+    made-free-requires
     returns
     returns-2)

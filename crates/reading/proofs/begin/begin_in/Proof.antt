@@ -11,14 +11,14 @@ placed-requires c κs = search needs
 enum-known-test : tie.Need-enum-known-test
 enum-known-test c = search needs
 
-refused-requires : tie.Need-refused-requires
-refused-requires c κs = search needs
+none-opened-requires : tie.Need-none-opened-requires
+none-opened-requires c κs = search needs
 
 enum-told : tie.Need-enum-told
 enum-told c = search needs
 
-answered-requires : tie.Need-answered-requires
-answered-requires c κs = search needs
+none-opened-requires-2 : tie.Need-none-opened-requires-2
+none-opened-requires-2 c κs = search needs
 
 returns : tie.Need-returns
 returns c = search begin-again
@@ -26,11 +26,8 @@ returns c = search begin-again
 clock-of-requires : tie.Need-clock-of-requires
 clock-of-requires c κs = search begin-clock
 
-opened-session-requires : tie.Need-opened-session-requires
-opened-session-requires c κs = search needs
-
-seated-requires : tie.Need-seated-requires
-seated-requires c κs = search needs
+opened-at-requires : tie.Need-opened-at-requires
+opened-at-requires c κs = search needs
 
 returns-2 : tie.Need-returns-2
 returns-2 c = search begin-refused
@@ -44,12 +41,11 @@ begin-in-spec =
     (tie.spec
     placed-requires
     enum-known-test
-    refused-requires
+    none-opened-requires
     enum-told
-    answered-requires
+    none-opened-requires-2
     returns
     clock-of-requires
-    opened-session-requires
-    seated-requires
+    opened-at-requires
     returns-2
     returns-3)

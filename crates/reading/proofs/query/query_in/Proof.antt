@@ -1,6 +1,5 @@
 -- `query::query_in` meets its contract.
 -- Assumes nothing.
-use Rattle.calls.proofs.Entered.{valued-fits}
 use Rattle.reading.proofs.QueryLaws.{query-refused, query-ready, query-short, query-own, query-copied}
 use borrow.Author.Needs.{needs}
 use Rattle.reading.proofs.query.query_in.Statement.{statement}
@@ -12,26 +11,14 @@ valued-requires c κs = search needs
 enum-known-test : tie.Need-enum-known-test
 enum-known-test c = search needs
 
-refused-requires : tie.Need-refused-requires
-refused-requires c κs = search needs
-
 enum-told : tie.Need-enum-told
 enum-told c = search needs
-
-refused-requires-2 : tie.Need-refused-requires-2
-refused-requires-2 c κs = search needs
 
 returns : tie.Need-returns
 returns c = search query-short
 
-cast-t24 : tie.Need-cast-t24
-cast-t24 c = search (valued-fits, needs)
-
 query-at-requires : tie.Need-query-at-requires
 query-at-requires c κs = search query-ready
-
-answered-requires : tie.Need-answered-requires
-answered-requires c κs = search needs
 
 same-length : tie.Need-same-length
 same-length c = search needs
@@ -39,11 +26,8 @@ same-length c = search needs
 returns-2 : tie.Need-returns-2
 returns-2 c = search query-own
 
-cast-t28 : tie.Need-cast-t28
-cast-t28 c = search needs
-
-answered-requires-2 : tie.Need-answered-requires-2
-answered-requires-2 c κs = search needs
+cast-t25 : tie.Need-cast-t25
+cast-t25 c = search needs
 
 returns-3 : tie.Need-returns-3
 returns-3 c = search query-refused
@@ -60,17 +44,12 @@ query-in-spec =
     (tie.spec
     valued-requires
     enum-known-test
-    refused-requires
     enum-told
-    refused-requires-2
     returns
-    cast-t24
     query-at-requires
-    answered-requires
     same-length
     returns-2
-    cast-t28
-    answered-requires-2
+    cast-t25
     returns-3
     same-length-2
     returns-4)

@@ -1,6 +1,6 @@
 -- `tidy::tidy_at` meets its contract.
 -- Assumes nothing.
-use Rattle.tidying.proofs.TidyLaws.{moved-rows, tidy-refuses, tidy-ready, tidy-answers}
+use Rattle.tidying.proofs.TidyLaws.{moved-rows, tidy-ready, tidy-refuses, tidy-answers}
 use borrow.Author.Needs.{needs}
 use Rattle.tidying.proofs.tidy.tidy_at.Statement.{statement}
 use Rattle.tidying.proofs.tidy.tidy_at.Tie as tie
@@ -17,17 +17,11 @@ ready-requires c κs = search needs
 enum-known-go : tie.Need-enum-known-go
 enum-known-go c = search needs
 
-refused-requires : tie.Need-refused-requires
-refused-requires c κs = search needs
-
 enum-told : tie.Need-enum-told
 enum-told c = search needs
 
 tidy-work-requires : tie.Need-tidy-work-requires
 tidy-work-requires c κs = tidy-ready _ _ _ _ _ _ _ _ _ _ _ (c .before .before .before .before .before .before .before .before .before .before .before .before .before .before .before .before .before .end-at .ensures) (c .before .before .before .before .before .before .before .before .before .before .before .before .before .before .before .before .flips .ensures) (c .before .before .before .before .before .before .before .before .before .ready .ensures) (c .before .before .before .before .before .before .before .enum-told .given .1) (c .before .before .before .before .before .before .before .before .before .before .before .before .before .before .before .before .before .before .before .before .before .before .before .before .before .before .pre)
-
-answered-requires : tie.Need-answered-requires
-answered-requires c κs = search needs
 
 same-length : tie.Need-same-length
 same-length c = search needs
@@ -45,7 +39,7 @@ same-length-5 : tie.Need-same-length-5
 same-length-5 c = search needs
 
 returns : tie.Need-returns
-returns c = tidy-refuses _ _ _ _ _ _ _ _ _ _ _ (c .before .before .before .before .before .before .before .before .before .before .before .before .end-at .ensures) (c .before .before .before .before .before .before .before .before .before .before .before .flips .ensures) (c .before .before .before .before .ready .ensures) _ _ (c .before .before .go .given .1) (c .refused .ensures)
+returns c = search tidy-refuses
 
 same-length-6 : tie.Need-same-length-6
 same-length-6 c = search needs
@@ -66,7 +60,7 @@ same-length-11 : tie.Need-same-length-11
 same-length-11 c = search needs
 
 returns-2 : tie.Need-returns-2
-returns-2 c = tidy-answers _ _ _ _ _ _ _ _ _ _ _ (c .before .before .before .before .before .before .before .before .before .before .before .before .before .before .before .before .before .before .before .before .before .before .before .before .before .before .before .before .before .before .before .end-at .ensures) (c .before .before .before .before .before .before .before .before .before .before .before .before .before .before .before .before .before .before .before .before .before .before .before .before .before .before .before .before .before .before .flips .ensures) (c .before .before .before .before .before .before .before .before .before .before .before .before .before .before .before .before .before .before .before .before .before .before .before .ready .ensures) (c .before .before .before .before .before .before .before .before .before .before .before .before .before .before .before .before .before .before .before .before .before .enum-told .given .1) _ _ _ (c .before .before .before .before .before .before .before .before .before .before .before .before .before .tidy-work .ensures) (c .answered .ensures)
+returns-2 c = search tidy-answers
 
 pub tidy-at-spec : {M : Type 1} → statement M
 tidy-at-spec =
@@ -76,10 +70,8 @@ tidy-at-spec =
     flips-requires
     ready-requires
     enum-known-go
-    refused-requires
     enum-told
     tidy-work-requires
-    answered-requires
     same-length
     same-length-2
     same-length-3

@@ -1,6 +1,6 @@
 -- `tidy::tidy_in` meets its contract.
 -- Assumes nothing.
-use Rattle.tidying.proofs.TidyLaws.{tidy-refused, value-cast, tidyable, tidy-served}
+use Rattle.tidying.proofs.TidyLaws.{tidyable, tidy-refused, tidy-served}
 use borrow.Author.Needs.{needs}
 use Rattle.tidying.proofs.tidy.tidy_in.Statement.{statement}
 use Rattle.tidying.proofs.tidy.tidy_in.Tie as tie
@@ -11,14 +11,8 @@ valued-requires c κs = search needs
 enum-known-test : tie.Need-enum-known-test
 enum-known-test c = search needs
 
-refused-requires : tie.Need-refused-requires
-refused-requires c κs = search needs
-
 enum-told : tie.Need-enum-told
 enum-told c = search needs
-
-cast-value : tie.Need-cast-value
-cast-value c = record { fits = value-cast _ _ _ _ _ _ (c .before .before .before .before .before .before .before .before .before .before .before .before .before .before .before .before .before .args .seat) _ _ _ (c .before .before .valued .ensures) (c .enum-told .given .1) }
 
 tidy-at-requires : tie.Need-tidy-at-requires
 tidy-at-requires c κs = tidyable _ _ _ _ _ _ (c .before .before .before .before .before .before .before .before .before .before .before .before .before .before .before .before .before .before .before .before .before .before .before .args .seat) _ _ _ (c .before .before .before .before .before .before .before .before .valued .ensures) (c .before .before .before .before .before .before .enum-told .given .1)
@@ -42,7 +36,7 @@ same-length-6 : tie.Need-same-length-6
 same-length-6 c = search needs
 
 returns : tie.Need-returns
-returns c = tidy-refused _ _ _ _ _ _ (c .before .before .before .before .before .before .before .before .before .before .before .before .before .before .before .before .before .before .before .args .seat) _ _ _ (c .before .before .before .before .valued .ensures) _ _ (c .before .before .test .given .1) (c .refused .ensures)
+returns c = tidy-refused _ _ _ _ _ _ (c .before .before .before .before .before .before .before .before .before .before .before .before .before .before .before .before .before .before .args .seat) _ _ _ (c .before .before .before .valued .ensures) _ (c .before .test .given .1)
 
 same-length-7 : tie.Need-same-length-7
 same-length-7 c = search needs
@@ -71,9 +65,7 @@ tidy-in-spec =
     (tie.spec
     valued-requires
     enum-known-test
-    refused-requires
     enum-told
-    cast-value
     tidy-at-requires
     same-length
     same-length-2

@@ -1,6 +1,6 @@
 -- `tidy::write_tidy` meets its contract.
 -- Assumes nothing.
-use Rattle.tidying.proofs.TidyLaws.{stamp-low, stamp-fits, clock-tidied, log-tidied, tidy-said}
+use Rattle.tidying.proofs.TidyLaws.{stamp-low, clock-tidied, log-tidied, tidy-said}
 use borrow.Author.Needs.{needs}
 use Rattle.tidying.proofs.tidy.write_tidy.Statement.{statement}
 use Rattle.tidying.proofs.tidy.write_tidy.Tie as tie
@@ -19,9 +19,6 @@ slots-used-requires c κs = search needs
 
 add-slots : tie.Need-add-slots
 add-slots c = search needs
-
-ticked-requires : tie.Need-ticked-requires
-ticked-requires c κs = search stamp-fits
 
 put-record-requires : tie.Need-put-record-requires
 put-record-requires c κs = (search stamp-low, search needs)
@@ -47,7 +44,6 @@ write-tidy-spec =
     add-end
     slots-used-requires
     add-slots
-    ticked-requires
     put-record-requires
     write-counts-requires
     same-length

@@ -9,9 +9,9 @@ use lib.ListN.{length}
 use Rattle.bits.specs.Tab.{tab}
 use Rattle.rules.specs.Lists.{inserts}
 use Rattle.tables.specs.Meaning.{entryAt}
 use Rattle.calls.proofs.ListLaws.{counted-none, counted-new, counted-row, counted-all}
-use Rattle.listing.proofs.lists.inserts.Statement.{statement}
-use Rattle.listing.proofs.lists.inserts.Tie as tie
+use Rattle.calls.proofs.lists.inserts.Statement.{statement}
+use Rattle.calls.proofs.lists.inserts.Tie as tie
 
 abbrev Inv-loop : tie.InvT-loop
 Inv-loop s n k₀ i₀ k i = (i ≤ n) × (k ≤ i) × (k ≡ length (inserts (tab (entryAt s) i)))

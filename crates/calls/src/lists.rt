@@ -1,4 +1,4 @@
-// A session's list: where a row stands in it, what a target says, how many inserts it has. Assumes nothing.
+// A session's list: where a row stands in it, what a target says, how many inserts it has.
 use history::Standing;
 use tables::Row;
 use tables::Session;

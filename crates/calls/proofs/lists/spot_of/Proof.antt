@@ -6,9 +6,9 @@ use Prim.Native.Nat.{_-_, _≤_}
 use native.Mathlib.Omega.{arith}
 use borrow.Author.Needs.{needs}
 use Rattle.bits.specs.Rows.{smallestBelow}
 use Rattle.calls.proofs.ListLaws.{hasRow, spot-start, spot-here, spot-past, spot-none}
-use Rattle.listing.proofs.lists.spot_of.Statement.{statement}
-use Rattle.listing.proofs.lists.spot_of.Tie as tie
+use Rattle.calls.proofs.lists.spot_of.Statement.{statement}
+use Rattle.calls.proofs.lists.spot_of.Tie as tie
 
 abbrev Inv-loop : tie.InvT-loop
 Inv-loop row s n i₀ i = (i ≤ n) × (smallestBelow (hasRow s (row .0)) i ≡ none)

@@ -1,9 +1,9 @@
 -- `lists::target_of` meets its contract: 255, or a value.
 -- Assumes nothing.
 use borrow.Author.Needs.{needs}
 use Rattle.calls.proofs.ListLaws.{target-absent, target-holds}
-use Rattle.listing.proofs.lists.target_of.Statement.{statement}
-use Rattle.listing.proofs.lists.target_of.Tie as tie
+use Rattle.calls.proofs.lists.target_of.Statement.{statement}
+use Rattle.calls.proofs.lists.target_of.Tie as tie
 
 returns : tie.Need-returns
 returns c = search target-absent
