@@ -13,7 +13,7 @@ use Rattle.bits.specs.Bit.{flipBit}
 use Rattle.rules.specs.State.{Change, Entry, alter, add, session}
 use Rattle.rules.specs.Lists.{inserts}
 use Rattle.rules.specs.Commit.{toggled, newSet, rowChanges, insertChanges, commitChanges}
-use Rattle.rules.specs.Damage.{Within, EntriesFit, SessionFits}
+use Rattle.rules.proofs.Invariant.{Within, EntriesFit, SessionFits}
 use Rattle.rules.specs.Calls.{commit}
 use Rattle.rules.specs.Refusals.{Test, firstOf, tests, listEmpty, conflict, rowsFull, recordsFull, changesFull}
 use Rattle.rules.specs.State as rules
@@ -31,20 +31,20 @@ use Rattle.history.specs.Last.{lastSet}
 use Rattle.history.specs.Read.{readCells}
 use Rattle.history.proofs.Meets.{flipSet-meets, read-meets}
 use Rattle.lent.specs.declared.seats.Seat.{Seat}
-use Rattle.calls.specs.declared.answers.Done.{Done}
+use Rattle.calls.specs.declared.answers.Freed.{Freed}
 use Rattle.calls.specs.declared.answers.Answer.{Answer}
 use Rattle.calls.specs.declared.enter.Test.the-variants.{Passed, No}
 use Rattle.calls.specs.Said.{Said, said, numbers}
 use Rattle.calls.specs.Outcome.{Outcome, outcome}
 use Rattle.calls.specs.Stores.{stores, putChanges}
 use Rattle.calls.specs.Calls.{commitRows, commitStores, commitOf}
-use Rattle.calls.specs.Seats.{refusing, seating, Serves}
+use Rattle.calls.specs.Seats.{frees, freesNone, freeing, Serves}
 use Rattle.calls.specs.Enter.{whyOf, openedBy}
 use Rattle.calls.specs.Opened.{Usable, OpenIn, Settles}
 use Rattle.committing.specs.Commit.{commitTests, toggledIn, newCells, insertCells, CommitReady, rowsAfter, changesMade, Committed}
 use Rattle.calls.specs.declared.enter.Test as asked
 use Rattle.calls.proofs.Entered.{opened-goes, opened-shows}
-use Rattle.calls.proofs.Serving.{refused-outcome, accepted-outcome, seating-resat, opened-refused}
+use Rattle.calls.proofs.Serving.{idle-freeing, freed-left, refused-outcome, accepted-outcome, opened-refused}
 use Rattle.calls.proofs.StoreLaws.{commit-stores}
 use Rattle.calls.proofs.OpenLaws.{open-session, open-facts}
 use Rattle.committing.proofs.CommitTests.{commit-ready, commit-refusal}
@@ -112,7 +112,7 @@ module _ (clock slots words heads log changes : List ℕ) where
 
   -- what an accepted commit leaves and answers
   abbrev wrote : ℕ → Tables → Outcome
-  wrote n t = outcome (stores t (commitStores t n)) (numbers ((stampIn (t .clock) + 1) ∷ commitRows t n ∷ []))
+  wrote n t = outcome (stores t (commitStores t n)) [] (numbers ((stampIn (t .clock) + 1) ∷ commitRows t n ∷ []))
 
   -- the same table by table, of the session that it is
   abbrev tabled : List Session → ℕ → Session → Outcome
@@ -120,36 +120,39 @@ module _ (clock slots words heads log changes : List ℕ) where
       outcome
       (tables (set (set (set clock 2 (stampIn clock + 1)) 3 (rowsAfter clock y)) 5 (changesIn clock + y .count)) slots words heads
       (putRecord log (stampIn clock) 1 (rowsAfter clock y) (changesIn clock + y .count))
-      (putChanges changes (changesIn clock) (commitChanges (meaning (lent ts)) (y .start .0) (entries y))) (set ts n freed))
+      (putChanges changes (changesIn clock) (commitChanges (meaning (lent ts)) (y .start .0) (entries y))) (set ts n freed)) []
       (numbers ((stampIn clock + 1) ∷ rowsAfter clock y ∷ []))
 
   module _ (x : Session) (n : ℕ) (go : asked.Test) (q : whyOf go ≡ firstOf (commitTests clock log changes x)) where
-    pub now-refused : (why : Refusal) (d : Done) → go ≡ No why → d ≡ refusing why → Settles lent lent (λ t. commitOf t n) x n d
+    pub now-refused : (why : Refusal) (d : Freed) → go ≡ No why → d ≡ freesNone why
+        → Settles lent lent x n (freeing d n) (d .answer) (λ t. commitOf t n)
     unfolding commitOf
     now-refused why d h k ts o =
         let t = lent ts in
-        refused-outcome t (commit n) (wrote n t) why d (commit-refusal t n x o ∙ sym q ∙ ap whyOf h) k
+        refused-outcome t [] (commit n) (wrote n t) why (freeing d n) (d .answer)
+        (commit-refusal t n x o ∙ sym q ∙ ap whyOf h) (idle-freeing d n why k)
 
     module _ (h : go ≡ Passed) where
       pub now-ready : Usable clock slots words heads log changes x → CommitReady clock slots words heads log changes x
       now-ready u = commit-ready clock slots words heads log changes x u (sym q ∙ ap whyOf h)
 
-      pub now-done : (clock′ log′ changes′ : List ℕ) (a : Answer) (f : Session) (d : Done) → Committed clock slots words heads log changes x clock′ log′ changes′ a
-          → f ≡ freed → d ≡ seating a n f → Settles lent (tables clock′ slots words heads log′ changes′) (λ t. commitOf t n) x n d
+      pub now-done : (clock′ log′ changes′ : List ℕ) (a : Answer) (d : Freed)
+          → Committed clock slots words heads log changes x clock′ log′ changes′ a → d ≡ frees a
+          → Settles lent (tables clock′ slots words heads log′ changes′) x n (freeing d n) (d .answer) (λ t. commitOf t n)
       unfolding commitOf
-      now-done clock′ log′ changes′ a f d c e k ts o =
+      now-done clock′ log′ changes′ a d c k ts o =
           let t = lent ts in
-          let made : List ℕ → List ℕ → List ℕ → Said → Outcome = λ cl lg ch s. outcome (tables cl slots words heads lg ch (set ts n freed)) s in
-          seating-resat (tables clock′ slots words heads log′ changes′ ts) d a n f (o .place-low) k
-          ∙ ap (λ (y : Session). outcome (tables clock′ slots words heads log′ changes′ (set ts n y)) (said a)) e
+          let made : List ℕ → List ℕ → List ℕ → Said → Outcome =
+          λ cl lg ch s. outcome (tables cl slots words heads lg ch (set ts n freed)) [] s in
+          freed-left (tables clock′ slots words heads log′ changes′ ts) [] n d a (o .place-low) k
           ∙ ap₂ (λ (cl lg : List ℕ). made cl lg changes′ (said a)) (c .recorded .clock-is) (c .recorded .log-is)
           ∙ ap₂ (λ (ch : List ℕ) (s : Said).
           made (set (set (set clock 2 (stampIn clock + 1)) 3 (rowsAfter clock x)) 5 (changesIn clock + x .count))
           (putRecord log (stampIn clock) 1 (rowsAfter clock x) (changesIn clock + x .count)) ch s)
           (c .stored ∙ ap (putChanges changes (changesIn clock)) (changes-meet t n x o)) (c .recorded .says)
           ∙ ap (tabled ts n) (sym (o .own-there))
-          ∙ sym (ap (λ (u : Tables). outcome u (numbers ((stampIn clock + 1) ∷ commitRows t n ∷ []))) (commit-stores t n))
-          ∙ sym (accepted-outcome t (commit n) (wrote n t) (commit-refusal t n x o ∙ sym q ∙ ap whyOf h))
+          ∙ sym (ap (λ (u : Tables). outcome u [] (numbers ((stampIn clock + 1) ∷ commitRows t n ∷ []))) (commit-stores t n))
+          ∙ sym (accepted-outcome t [] (commit n) (wrote n t) (commit-refusal t n x o ∙ sym q ∙ ap whyOf h))
 
   -- ---- the core
 
@@ -161,13 +164,16 @@ module _ (clock slots words heads log changes : List ℕ) where
         let y = session st n in
         listEmpty y ∷ conflict st y ∷ rowsFull st y ∷ recordsFull st ∷ changesFull st (length (rules.listOf y)) ∷ []
 
-    pub commit-refused : (why : Refusal) (d : Done) → test ≡ No why → d ≡ refusing why → Serves lent lent (λ t. commitOf t n) x n d
+    pub commit-refused : (why : Refusal) (d : Freed) → test ≡ No why → d ≡ freesNone why
+        → Serves lent lent [] x n (freeing d n) (d .answer) (λ t. commitOf t n)
     unfolding commitOf tests
-    commit-refused why d h k = opened-refused clock slots words heads log changes x n (commit n) (wrote n) test why h d k left (λ t. refl) q
+    commit-refused why d h k =
+        opened-refused clock slots words heads log changes [] x n (commit n) (wrote n) test why h (freeing d n) (d .answer)
+        (idle-freeing d n why k) left (λ t. refl) q
 
-    pub commit-on : (clock′ log′ changes′ : List ℕ) (d : Done) → test ≡ Passed
-        → Settles lent (tables clock′ slots words heads log′ changes′) (λ t. commitOf t n) (x .session) n d
-        → Serves lent (tables clock′ slots words heads log′ changes′) (λ t. commitOf t n) x n d
+    pub commit-on : (clock′ log′ changes′ : List ℕ) (d : Freed) → test ≡ Passed
+        → Settles lent (tables clock′ slots words heads log′ changes′) (x .session) n (freeing d n) (d .answer) (λ t. commitOf t n)
+        → Serves lent (tables clock′ slots words heads log′ changes′) [] x n (freeing d n) (d .answer) (λ t. commitOf t n)
     unfolding tests
     commit-on clock′ log′ changes′ d h f ts e =
         let t = lent ts in

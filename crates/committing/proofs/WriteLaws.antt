@@ -185,7 +185,8 @@ module _ (changes : List ℕ) (x : Session) (from rows : ℕ) where
   unfolding putChanges tab
   inserts-start = record { stored = refl; place = omega arith; next-row = omega arith }
 
-  module _ (changes′ : List ℕ) (i p r n : ℕ) (s : InsertsStored x from rows changes changes′ i p r) (m : n ≡ x .count) where
+  module _ (changes′ : List ℕ) (i p n : ℕ) (row : Row) (s : InsertsStored x from rows changes changes′ i p (row .0))
+      (m : n ≡ x .count) where
     abbrev sofar : List ℕ
     sofar = inserts (tab (entryAt x) i)
 
@@ -195,28 +196,33 @@ module _ (changes : List ℕ) (x : Session) (from rows : ℕ) where
         let one = length-append sofar (getD (x .to) i 0 ∷ []) in
         omega (arith, s .place, ready .places-low, more, ap length (inserts-new x i new), one)
 
-    pub inserts-more : (changes″ stored : List ℕ) (p′ r′ : ℕ) → getD (x .at) i 0 ≡ 65535 → changes″ ≡ stored
-        → stored ≡ putChange changes′ p r (toggledIn 0 (some (getD (x .to) i 0))) → p′ ≡ p + 1 → r′ ≡ r + 1
-        → InsertsStored x from rows changes changes″ (i + 1) p′ r′
-    inserts-more changes″ stored p′ r′ new y w u z =
+    pub insert-row : InsertsReady changes x from rows → i < n → row .0 < 4294967295
+    insert-row ready l = omega (arith, s .next-row, ready .rows-low, ready .places-low, inserts-few x i (x .count) (omega arith))
+
+    pub inserts-more : (changes″ stored : List ℕ) (p′ : ℕ) (row′ next : Row) → getD (x .at) i 0 ≡ 65535 → changes″ ≡ stored
+        → stored ≡ putChange changes′ p (row .0) (toggledIn 0 (some (getD (x .to) i 0))) → p′ ≡ p + 1 → row′ ≡ next → next .0 ≡ row .0 + 1
+        → InsertsStored x from rows changes changes″ (i + 1) p′ (row′ .0)
+    inserts-more changes″ stored p′ row′ next new y w u k z =
         let to = getD (x .to) i 0 in
         let one = length-append sofar (to ∷ []) in
         record {
           stored =
-              y ∙ w ∙ ap₂ (λ (c : List ℕ) (j : ℕ). putChange c j r (toggledIn 0 (some to))) (s .stored) (s .place ∙ ap (λ (k : ℕ). from + k) (sym (length-insertCells rows sofar)))
+              y ∙ w
+              ∙ ap₂ (λ (c : List ℕ) (j : ℕ). putChange c j (row .0) (toggledIn 0 (some to))) (s .stored)
+              (s .place ∙ ap (λ (k : ℕ). from + k) (sym (length-insertCells rows sofar)))
               ∙ ap (λ (a : ℕ). putChange (putChanges changes from (insertCells rows sofar)) (from + length (insertCells rows sofar)) a (toggledIn 0 (some to))) (s .next-row)
               ∙ sym (changes-snoc changes from (insertCells rows sofar) (record { row = rows + length sofar; flips = toggledIn 0 (some to) }))
               ∙ ap (putChanges changes from) (sym (ap (insertCells rows) (inserts-new x i new) ∙ insertCells-snoc rows sofar to));
           place = u ∙ omega (arith, s .place, ap length (inserts-new x i new), one);
-          next-row = z ∙ omega (arith, s .next-row, ap length (inserts-new x i new), one);
+          next-row = ap (λ (q : Row). q .0) k ∙ z ∙ omega (arith, s .next-row, ap length (inserts-new x i new), one);
         }
 
-    pub inserts-skip : (changes″ : List ℕ) (p′ r′ : ℕ) → (getD (x .at) i 0 ≡ 65535 → ⊥) → changes″ ≡ changes′ → p′ ≡ p → r′ ≡ r
-        → InsertsStored x from rows changes changes″ (i + 1) p′ r′
-    inserts-skip changes″ p′ r′ old w u z = record {
+    pub inserts-skip : (changes″ : List ℕ) (p′ : ℕ) (row′ : Row) → (getD (x .at) i 0 ≡ 65535 → ⊥) → changes″ ≡ changes′ → p′ ≡ p
+        → row′ ≡ row → InsertsStored x from rows changes changes″ (i + 1) p′ (row′ .0)
+    inserts-skip changes″ p′ row′ old w u z = record {
       stored = w ∙ s .stored ∙ ap (λ (vs : List ℕ). putChanges changes from (insertCells rows vs)) (sym (inserts-row x i old));
       place = u ∙ s .place ∙ ap (λ (vs : List ℕ). from + length vs) (sym (inserts-row x i old));
-      next-row = z ∙ s .next-row ∙ ap (λ (vs : List ℕ). rows + length vs) (sym (inserts-row x i old));
+      next-row = ap (λ (q : Row). q .0) z ∙ s .next-row ∙ ap (λ (vs : List ℕ). rows + length vs) (sym (inserts-row x i old));
     }
 
     pub inserts-all : n ≤ i → i ≤ n → changes′ ≡ putChanges changes from (insertCells rows (inserts (entries x)))
@@ -235,7 +241,7 @@ module _ (clock log : List ℕ) (c : Clock) (k : c ≡ clockIn clock) where
 
   pub recorded-is : (rows : Row) (end : ℕ) (next : Clock) (clock₁ clock′ log′ : List ℕ) → next ≡ later c rows → log′ ≡ putRecord log (c .stamp .0) 1 (rows .0) end
       → clock₁ ≡ putMoment clock (next .stamp .0) (next .rows .0) → clock′ ≡ putChangesUsed clock₁ end
-      → Recorded clock log (rows .0) end clock′ log′ (At (next .stamp) (rows .0))
+      → Recorded clock log (rows .0) end clock′ log′ (At (next .stamp) rows)
   unfolding clockIn later putMoment putChangesUsed
   recorded-is rows end next clock₁ clock′ log′ e p q r = record {
     clock-is = r ∙ ap (λ (l : List ℕ). set l 5 end) (q ∙ ap (λ (d : Clock). set (set clock 2 (d .stamp .0)) 3 (d .rows .0)) (e ∙ ap (λ (d : Clock). later d rows) k));

@@ -1,16 +1,17 @@
 // Commit: its refusals, and what it writes. Assumes nothing.
 use crate::clash;
 use crate::writes;
-use calls::Done;
+use calls::Freed;
 use calls::Test;
 use lent::Seat;
 use tables::Refusal;
 use tables::Session;
 ghost use mathlib.Core.Path.{_≡_};
+ghost use mathlib.Core.List.{[]};
 ghost use Rattle.rules.specs.Refusals.{firstOf};
 ghost use Rattle.tables.specs.Cells.{tables};
 ghost use Rattle.calls.specs.Calls.{commitOf};
-ghost use Rattle.calls.specs.Seats.{Serves};
+ghost use Rattle.calls.specs.Seats.{freeing, Serves};
 ghost use Rattle.calls.specs.Enter.{whyOf};
 ghost use Rattle.calls.specs.Opened.{Usable, Settles};
 ghost use Rattle.committing.specs.Commit.{CommitAsked, commitTests};
@@ -29,13 +30,13 @@ fn ready(clock: &[u32], log: &[u32], changes: &[u32], s: Session) -> Test
     if clash::clash(log, changes, s, stamp) {
         return Test::No(Refusal::Conflict);
     }
-    if 2048 < rows.0 + listing::inserts(s) {
+    if tables::MAX_ROWS < rows.0 + calls::inserts(s) {
         return Test::No(Refusal::RowsFull);
     }
-    if 512 <= stamp.0 {
+    if tables::MAX_RECORDS <= stamp.0 {
         return Test::No(Refusal::RecordsFull);
     }
-    if 2048 < tables::changes_used(clock) + s.count {
+    if tables::MAX_CHANGES < tables::changes_used(clock) + s.count {
         return Test::No(Refusal::ChangesFull);
     }
     Test::Passed
@@ -51,16 +52,16 @@ fn commit_now(
     changes: &mut [u32],
     s: Session,
     n: u64,
-) -> Done
+) -> Freed
     requires { ⌜ Usable (now clock) (now slots) (now words) (now heads) (now log) (now changes) s ⌝ }
-    ensures { λ r. ⌜ Settles (tables (now (clock .entry)) (now (slots .entry)) (now (words .entry)) (now (heads .entry)) (now (log .entry)) (now (changes .entry))) (tables (now (clock .exit)) (now (slots .entry)) (now (words .entry)) (now (heads .entry)) (now (log .exit)) (now (changes .exit))) (λ t. commitOf t n) s n r ⌝ }
+    ensures { λ r. ⌜ Settles (tables (now (clock .entry)) (now (slots .entry)) (now (words .entry)) (now (heads .entry)) (now (log .entry)) (now (changes .entry))) (tables (now (clock .exit)) (now (slots .entry)) (now (words .entry)) (now (heads .entry)) (now (log .exit)) (now (changes .exit))) s n (freeing r n) (r .answer) (λ t. commitOf t n) ⌝ }
 {
     let go = ready(clock, log, changes, s);
     match go {
-        Test::No(why) => calls::refused(why),
+        Test::No(why) => calls::none_freed(why),
         Test::Passed => {
             let answer = writes::commit_work(clock, slots, words, heads, log, changes, s);
-            calls::seated(answer, n, tables::free_session())
+            calls::made_free(answer)
         }
     }
 }
@@ -75,13 +76,13 @@ pub fn commit_in(
     changes: &mut [u32],
     seat: Seat,
     n: u64,
-) -> Done
-    ensures { λ r. ⌜ Serves (tables (now (clock .entry)) (now (slots .entry)) (now (words .entry)) (now (heads .entry)) (now (log .entry)) (now (changes .entry))) (tables (now (clock .exit)) (now (slots .entry)) (now (words .entry)) (now (heads .entry)) (now (log .exit)) (now (changes .exit))) (λ t. commitOf t n) seat n r ⌝ }
+) -> Freed
+    ensures { λ r. ⌜ Serves (tables (now (clock .entry)) (now (slots .entry)) (now (words .entry)) (now (heads .entry)) (now (log .entry)) (now (changes .entry))) (tables (now (clock .exit)) (now (slots .entry)) (now (words .entry)) (now (heads .entry)) (now (log .exit)) (now (changes .exit))) [] seat n (freeing r n) (r .answer) (λ t. commitOf t n) ⌝ }
 {
     let s = seat.session;
     let test = calls::opened(clock, slots, words, heads, log, changes, seat, n);
     match test {
-        Test::No(why) => calls::refused(why),
+        Test::No(why) => calls::none_freed(why),
         Test::Passed => commit_now(clock, slots, words, heads, log, changes, s, n),
     }
 }

@@ -7,7 +7,7 @@ use tables::Stamp;
 use tables::Value;
 ghost use mathlib.Core.Path.{_≡_};
 ghost use mathlib.Core.Option.{some};
-ghost use Prim.Native.Nat.{_<_, _≤_};
+ghost use Prim.Native.Nat.{_+_, _<_, _≤_};
 ghost use lib.ListN.{length, getD};
 ghost use Rattle.rules.specs.Lists as rules;
 ghost use Rattle.tables.specs.Cells.{valuesIn, stampIn, changesIn};
@@ -24,7 +24,7 @@ pub fn toggled(set: u32, held: Standing) -> u32
     match held {
         Standing::Absent => set,
         Standing::Holds(v) => {
-            if v.0 < 32 {
+            if v.0 < tables::MAX_VALUES {
                 return bits::toggle(set, v.0);
             }
             set
@@ -51,7 +51,7 @@ fn new_set(
     let values = c.values;
     let last = history::last_naming(changes, tables::end_at(log, start), row);
     let held = history::read_after(slots, words, heads, log, values, start, row, last);
-    toggled(toggled(last.set, held), listing::target_of(to))
+    toggled(toggled(last.set, held), calls::target_of(to))
 }
 
 // The change of listed row i is written at p.
@@ -121,6 +121,14 @@ fn write_insert(changes: &mut [u32], s: Session, i: usize, p: usize, row: Row)
     tables::put_change(changes, p, row, toggled(0, Standing::Holds(v)));
 }
 
+// The row after another.
+fn next_row(row: Row) -> Row
+    requires { ⌜ row .0 < 4294967295 ⌝ }
+    ensures { λ r. ⌜ r .0 ≡ row .0 + 1 ⌝ }
+{
+    Row(row.0 + 1)
+}
+
 // The changes of the inserts are written from `from` on, with the row numbers from `rows` on.
 fn write_inserts(changes: &mut [u32], s: Session, from: usize, rows: Row)
     requires { ⌜ InsertsReady (now changes) s from (rows .0) ⌝ }
@@ -128,13 +136,13 @@ fn write_inserts(changes: &mut [u32], s: Session, from: usize, rows: Row)
 {
     let n = bits::wide(s.count);
     let mut p = from;
-    let mut row = rows.0;
+    let mut row = rows;
     let mut i: usize = 0;
     while i < n {
         if s.at[i] == tables::NEW {
-            write_insert(changes, s, i, p, Row(row));
+            write_insert(changes, s, i, p, row);
             p += 1;
-            row += 1;
+            row = next_row(row);
         }
         i += 1;
     }
@@ -172,7 +180,7 @@ fn write_commit(clock: &mut [u32], log: &mut [u32], rows: Row, end: u32) -> Answ
     tables::put_record(log, before, 1, rows, end);
     tables::put_moment(clock, next);
     tables::put_changes_used(clock, end);
-    Answer::At(stamp, rows.0)
+    Answer::At(stamp, rows)
 }
 
 // A commit that is not refused.
@@ -190,7 +198,7 @@ pub fn commit_work(
 {
     let c = tables::clock_of(clock);
     let rows = c.rows;
-    let after = Row(rows.0 + listing::inserts(s));
+    let after = Row(rows.0 + calls::inserts(s));
     let end = tables::changes_used(clock) + s.count;
     write_changes(clock, slots, words, heads, log, changes, s);
     write_commit(clock, log, after, end)

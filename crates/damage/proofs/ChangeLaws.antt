@@ -1,35 +1,25 @@
--- The changes: all flip sets by one number, and the rows of all records of one row count at once.
+-- The changes: all flip sets gathered, and the rows of all records of one row count at once.
 -- Assumes nothing.
 use mathlib.Core.Path.{_≡_, sym, ap, ap₂, _∙_}
 use mathlib.Core.Bool.{Bool, true, false, not, _&&_}
 use mathlib.Core.List.{List}
 use mathlib.Core.Logic.{_⊎_, inl, inr}
-use Prim.Native.Nat.{ℕ, zero, suc, _+_, _/_, _^_, _≤_, _<_}
+use Prim.Native.Nat.{ℕ, zero, suc, _+_, _^_, _≤_, _<_}
 use native.Mathlib.Nat.{eq-or-lt-of-le, le-of-suc-le-suc}
 use native.Mathlib.Numerals.{add-one}
 use native.Mathlib.Omega.{arith}
 use borrow.Author.Tests.{lt-ltb, ltb-true, not-true, not-false}
-use lib.Dec.{eqb}
-use Rattle.bits.specs.All.{allBelow, all-at, all-of, all-ext}
-use Rattle.bits.specs.OrWords.{orBelow, or-clear}
+use Rattle.bits.specs.All.{allBelow, all-at, all-of}
 use Rattle.bits.specs.Cases.{same-truth}
-use Rattle.bits.specs.Sets.{setBelow, below-shr, below-lt, lt-below}
+use Rattle.bits.specs.Sets.{setBelow, below-lt, lt-below}
 use Rattle.tables.specs.declared.clock.Clock.{Clock}
 use Rattle.tables.specs.Cells.{valuesIn, firstIn, stampIn, changesIn, recordRows, recordEnd, endAt, changeRow, changeSet}
 use Rattle.tables.specs.Clock.{clockIn}
 use Rattle.tables.specs.Damage.{allIn, clockFits, recordsFit, changesFit}
 use Rattle.tables.proofs.Tests.{both, and-both}
 use Rattle.tables.proofs.Facts.{in-at, in-of, clock-limits, end-next, ends-order, rows-order, end-high, each-change, change-now, changes-made}
-use Rattle.damage.specs.Parts.{rowBelow, recordRowsFit, Alike, Rising}
+use Rattle.damage.specs.Parts.{Gathered, rowBelow, recordRowsFit, Alike, Rising}
 use Rattle.damage.proofs.Fold.{in-none, in-join, in-one}
-
--- the OR of numbers is below 2 ^ c exactly if each is
-pub or-below : (g : ℕ → ℕ) (n c : ℕ) → setBelow (orBelow g n) c ≡ allBelow (λ p. setBelow (g p) c) n
-or-below g n c = sym (below-shr (orBelow g n) c) ∙ or-clear g n c ∙ all-ext (λ p. eqb (g p / 2 ^ c) 0) (λ p. setBelow (g p) c) n (λ p l. below-shr (g p) c)
-
--- the loop that gathers them has come to the end
-pub or-end : (g : ℕ → ℕ) (p n all : ℕ) → all ≡ orBelow g p → p ≤ n → n ≤ p → all ≡ orBelow g n
-or-end g p n all e h l = let z : p ≡ n = omega arith in e ∙ ap (orBelow g) z
 
 -- a change's row, and the rows of a record's changes
 row-lt : (changes : List ℕ) (rows p : ℕ) → rowBelow changes rows p ≡ true → changeRow changes p < rows
@@ -102,6 +92,9 @@ module _ (log changes : List ℕ) (n : ℕ) (r : Rising log n) where
       pub stretch-fails : not t ≡ true → false ≡ w
       stretch-fails h = sym (judged ∙ ap (λ (b : Bool). b && fits (e + 1) n) (not-true t h))
 
+    pub stretch-order : (from to : ℕ) → from ≡ endAt log k → to ≡ recordEnd log e → from ≤ to
+    stretch-order from to x y = omega (arith, r .ends-rise k (suc e) (omega (arith, a .not-before)) (a .in-use))
+
     pub stretch-low : (to : ℕ) → to ≡ recordEnd log e → to ≤ 2048
     stretch-low to y = omega (arith, r .ends-low (suc e) (a .in-use))
 
@@ -125,23 +118,22 @@ alike-low log k e n a = a .in-use
 
 module _ (c log changes : List ℕ) (r : recordsFit c log ≡ true) where
   abbrev sets : Bool
-  sets = setBelow (orBelow (changeSet changes) (changesIn c)) (valuesIn c)
+  sets = allBelow (λ p. setBelow (changeSet changes p) (valuesIn c)) (changesIn c)
 
   abbrev rows : Bool
   rows = allBelow (recordRowsFit log changes) (stampIn c)
 
   set-at : sets ≡ true → (p : ℕ) → p < changesIn c → changeSet changes p < 2 ^ valuesIn c
   set-at e p h =
-      below-lt (changeSet changes p) (valuesIn c)
-      (all-at (λ q. setBelow (changeSet changes q) (valuesIn c)) (changesIn c) (sym (or-below (changeSet changes) (changesIn c) (valuesIn c)) ∙ e) p h)
+      below-lt (changeSet changes p) (valuesIn c) (all-at (λ q. setBelow (changeSet changes q) (valuesIn c)) (changesIn c) e p h)
 
   -- the sets of all changes and the rows of each record's
   changes-split : changesFit c log changes ≡ sets && rows
   changes-split =
       same-truth (changesFit c log changes) (sets && rows)
       (λ e. and-both sets rows
-      (or-below (changeSet changes) (changesIn c) (valuesIn c)
-      ∙ all-of (λ p. setBelow (changeSet changes p) (valuesIn c)) (changesIn c) (λ p l. lt-below (changeSet changes p) (valuesIn c) (change-now c log changes r e p l .set-low)))
+      (all-of (λ p. setBelow (changeSet changes p) (valuesIn c)) (changesIn c)
+      (λ p l. lt-below (changeSet changes p) (valuesIn c) (change-now c log changes r e p l .set-low)))
       (all-of (recordRowsFit log changes) (stampIn c) (λ k l. record-of log changes k (λ p m n. each-change c log changes e k p l m n .row-low))))
       (λ e. changes-made c log changes
       (λ k p l m n. record {
@@ -162,13 +154,15 @@ rising clock log c n f r e o =
     }
 
 module _ (clock log changes : List ℕ) (c : Clock) (u n set : ℕ) (t : Bool) (e : c ≡ clockIn clock) (i : u ≡ changesIn clock) (o : n ≡ u)
-    (r : recordsFit clock log ≡ true) (q : set ≡ orBelow (changeSet changes) n) (y : t ≡ setBelow set (c .values .0)) where
+    (r : recordsFit clock log ≡ true) (q : Gathered changes 2048 n set) (y : t ≡ setBelow set (c .values .0)) where
   used : n ≡ changesIn clock
   used = o ∙ i
 
   sets-are : t ≡ sets clock log changes r
-  unfolding clockIn
-  sets-are = y ∙ ap₂ setBelow (q ∙ ap (orBelow (changeSet changes)) used) (ap (λ (x : Clock). x .values .0) e)
+  unfolding clockIn Gathered
+  sets-are =
+      y ∙ q (c .values .0)
+      ∙ ap₂ (λ (v m : ℕ). allBelow (λ p. setBelow (changeSet changes p) v) m) (ap (λ (x : Clock). x .values .0) e) used
 
   -- a set that is not below C
   pub bad-sets : not t ≡ true → false ≡ changesFit clock log changes

@@ -3,7 +3,7 @@
 use mathlib.Core.Path.{_≡_, ap}
 use mathlib.Core.Bool.{true}
 use mathlib.Core.List.{List}
-use Prim.Native.Nat.{ℕ, _≤_}
+use Prim.Native.Nat.{ℕ, _+_, _≤_}
 use native.Mathlib.Omega.{arith}
 use Rattle.tables.specs.declared.clock.Clock.{Clock}
 use Rattle.tables.specs.Cells.{valuesIn, stampIn, slotsIn, changesIn}
@@ -18,8 +18,8 @@ module _ (clock : List ℕ) (f : clockFits clock ≡ true) where
   pub low-slots : (u n : ℕ) → u ≡ slotsIn clock → n ≡ u → n ≤ 96
   low-slots u n e g = omega (arith, clock-limits clock f .few-slots)
 
-  pub low-changes : (u n : ℕ) → u ≡ changesIn clock → n ≡ u → n ≤ 2048
-  low-changes u n e g = omega (arith, clock-limits clock f .few-changes)
+  pub low-sets : (u n size : ℕ) → u ≡ changesIn clock → n ≡ u → 4096 ≤ size → 2048 + n ≤ size
+  low-sets u n size e g h = omega (arith, clock-limits clock f .few-changes)
 
   pub low-stamp : (c : Clock) → c ≡ clockIn clock → c .stamp .0 ≤ 512
   unfolding clockIn

@@ -1,15 +1,28 @@
 -- The parts into which the code cuts the sentences of number 2.
 -- Assumes nothing.
 use mathlib.Core.Path.{_≡_}
-use mathlib.Core.Bool.{Bool, not, _&&_, _||_}
+use mathlib.Core.Bool.{Bool, not, _&&_, _||_, cond}
 use mathlib.Core.List.{List}
 use Prim.Native.Nat.{ℕ, _+_, _-_, _≤_, _<_}
 use lib.Dec.{leb, eqb, ltb}
 use lib.ListN.{length, getD}
 use Rattle.bits.specs.All.{allBelow}
+use Rattle.bits.specs.Sets.{setBelow}
 use Rattle.tables.specs.declared.clock.Clock.{Clock}
 use Rattle.tables.specs.Cells.{slotValue, slotStamp, slotLink, recordRows, recordEnd, rowsAt, endAt, changeRow}
 use Rattle.tables.specs.Damage.{allIn, entryFits}
+
+-- a number is below 2 ^ c exactly if each of the n cells from `from` on is
+unfoldable pub Gathered : List ℕ → ℕ → ℕ → ℕ → Type 0
+Gathered cells from n all = (c : ℕ) → setBelow all c ≡ allBelow (λ k. setBelow (getD cells (from + k) 0) c) n
+
+-- how far a is above b, modulo 2 ^ 32
+unfoldable pub gap : ℕ → ℕ → ℕ
+gap a b = cond (leb b a) (a - b) (a + (4294967296 - b))
+
+-- g is at most `top` from a on, up to b
+unfoldable pub Within : (ℕ → ℕ) → ℕ → ℕ → ℕ → Type 0
+Within g a b top = (k : ℕ) → a ≤ k → k < b → g k ≤ top
 
 -- the row of change p is below `rows`
 unfoldable pub rowBelow : List ℕ → ℕ → ℕ → Bool

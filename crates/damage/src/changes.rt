@@ -3,30 +3,30 @@
 use tables::Row;
 ghost use mathlib.Core.Path.{_≡_};
 ghost use mathlib.Core.Bool.{true};
-ghost use Prim.Native.Nat.{_<_, _≤_};
+ghost use Prim.Native.Nat.{_+_, _<_, _≤_};
 ghost use lib.ListN.{length};
 ghost use Rattle.bits.specs.All.{allBelow};
-ghost use Rattle.bits.specs.OrWords.{orBelow};
-ghost use Rattle.tables.specs.Cells.{changeSet};
 ghost use Rattle.tables.specs.Damage.{allIn, clockFits, recordsFit, changesFit};
-ghost use Rattle.damage.specs.Parts.{rowBelow, recordRowsFit, Alike, Rising};
+ghost use Rattle.damage.specs.Parts.{Gathered, rowBelow, recordRowsFit, Alike, Rising};
 
-// The flip sets of the first n changes, as one set.
-fn sets_of(changes: &[u32], n: usize) -> u32
-    requires { ⌜ (n ≤ 2048) × (4096 ≤ length (now changes)) ⌝ }
-    ensures { λ r. ⌜ r ≡ orBelow (changeSet (now (changes .entry))) n ⌝ }
+// The n cells from `from` on, as one set: their first half and their second at once.
+fn gathered(cells: &[u32], from: usize, n: usize) -> u32
+    requires { ⌜ from + n ≤ length (now cells) ⌝ }
+    ensures { λ r. ⌜ Gathered (now (cells .entry)) from n r ⌝ }
 {
+    let half = (n + 1) / 2;
+    let other = from + n / 2;
     let mut all: u32 = 0;
     let mut p: usize = 0;
-    while p < n {
-        all = all | changes[2048 + p];
+    while p < half {
+        all = all | (cells[from + p] | cells[other + p]);
         p += 1;
     }
     all
 }
 
-// Whether the changes from `from` to `to` have rows below `rows`.
-fn rows_below(changes: &[u32], from: usize, to: usize, rows: Row) -> bool
+// Whether the changes from `from` to `to` have rows below `rows`, one by one.
+fn rows_below_each(changes: &[u32], from: usize, to: usize, rows: Row) -> bool
     requires { ⌜ (to ≤ 2048) × (4096 ≤ length (now changes)) ⌝ }
     ensures { λ r. ⌜ r ≡ allIn (rowBelow (now (changes .entry)) (rows .0)) from to ⌝ }
 {
@@ -37,6 +37,17 @@ fn rows_below(changes: &[u32], from: usize, to: usize, rows: Row) -> bool
         p += 1;
     }
     ok
+}
+
+// Whether the changes from `from` to `to` have rows below `rows`. All are below 2,048 exactly if their bits together are.
+fn rows_below(changes: &[u32], from: usize, to: usize, rows: Row) -> bool
+    requires { ⌜ (from ≤ to) × (to ≤ 2048) × (4096 ≤ length (now changes)) ⌝ }
+    ensures { λ r. ⌜ r ≡ allIn (rowBelow (now (changes .entry)) (rows .0)) from to ⌝ }
+{
+    if rows.0 == 2048 {
+        return gathered(changes, from, to - from) < 2048;
+    }
+    rows_below_each(changes, from, to, rows)
 }
 
 // Of the records k + 1, k + 1 + step, .. up to n, the last before the row count changes.
@@ -64,7 +75,7 @@ fn last_alike(log: &[u32], k: usize, n: usize) -> usize
     if log[1024 + last] == log[1024 + k] {
         return last;
     }
-    let e = alike_by(log, k, n, 8);
+    let e = alike_by(log, k, n, 4);
     alike_by(log, e, n, 1)
 }
 
@@ -96,7 +107,7 @@ pub fn changes_fit(clock: &[u32], log: &[u32], changes: &[u32]) -> bool
 {
     let c = tables::clock_of(clock);
     let n = bits::wide(tables::changes_used(clock));
-    if !bits::all_below(sets_of(changes, n), c.values.0) {
+    if !bits::all_below(gathered(changes, 2048, n), c.values.0) {
         return false;
     }
     each_rows_fit(log, changes, bits::wide(c.stamp.0))

@@ -7,12 +7,24 @@ ghost use Prim.Native.Nat.{_+_, _<_, _≤_};
 ghost use lib.ListN.{length};
 ghost use lib.Dec.{eqb};
 ghost use Rattle.tables.specs.Damage.{allIn, clockFits, recordFits, recordsFit};
+ghost use Rattle.damage.specs.Parts.{gap};
 
 // Whether a record has one of the two kinds.
 fn kind_known(kind: u32) -> bool
     ensures { λ r. ⌜ r ≡ (eqb kind 1 || eqb kind 2) ⌝ }
 {
     (kind == 1) | (kind == 2)
+}
+
+// How far a is above b, modulo 2 ^ 32.
+fn off(a: u32, b: u32) -> u32
+    ensures { λ r. ⌜ r ≡ gap a b ⌝ }
+{
+    if b <= a {
+        a - b
+    } else {
+        a + (4294967295 - b) + 1
+    }
 }
 
 // Whether record k + 1 bears that stamp and a kind, and its row count and its end do not fall.
@@ -27,8 +39,8 @@ fn later_record_fits(log: &[u32], k: usize) -> bool
     stamp & kind & rows & end
 }
 
-// Whether each of the records 2 to n does.
-fn later_records_fit(log: &[u32], n: usize) -> bool
+// Whether each of the records 2 to n does, one by one.
+fn later_records_fit_each(log: &[u32], n: usize) -> bool
     requires { ⌜ (n ≤ 512) × (2048 ≤ length (now log)) ⌝ }
     ensures { λ r. ⌜ r ≡ allIn (recordFits 0 (now (log .entry))) 1 n ⌝ }
 {
@@ -39,6 +51,39 @@ fn later_records_fit(log: &[u32], n: usize) -> bool
         k += 1;
     }
     ok
+}
+
+// Whether, in the records 2 to n, stamps and kinds are as they should be and row counts and ends rise by less than 2 ^ 22 each,
+// from 2,048 at most: what each record is off by is gathered, modulo 2 ^ 32.
+fn later_records_close(log: &[u32], n: usize) -> bool
+    requires { ⌜ (n ≤ 512) × (2048 ≤ length (now log)) ⌝ }
+    ensures { λ r. ⌜ (r ≡ true → allIn (recordFits 0 (now (log .entry))) 1 n ≡ true) ⌝ }
+{
+    let mut stamps: u32 = 0;
+    let mut kinds: u32 = 0;
+    let mut rows: u32 = 0;
+    let mut ends: u32 = 0;
+    let mut k: usize = 1;
+    while k < n {
+        stamps = stamps | off(log[k], bits::narrow(k) + 1);
+        kinds = kinds | off(log[512 + k], 1);
+        rows = rows | off(log[1024 + k], log[1023 + k]);
+        ends = ends | off(log[1536 + k], log[1535 + k]);
+        k += 1;
+    }
+    let low = (log[1024] <= 2048) & (log[1536] <= 2048);
+    (stamps == 0) & (kinds < 2) & (rows < 4194304) & (ends < 4194304) & low
+}
+
+// Whether each of the records 2 to n does: at once where none is far off.
+fn later_records_fit(log: &[u32], n: usize) -> bool
+    requires { ⌜ (n ≤ 512) × (2048 ≤ length (now log)) ⌝ }
+    ensures { λ r. ⌜ r ≡ allIn (recordFits 0 (now (log .entry))) 1 n ⌝ }
+{
+    if later_records_close(log, n) {
+        return true;
+    }
+    later_records_fit_each(log, n)
 }
 
 // Whether record 1, if there is one, bears its stamp and a kind, and its row count is not below the first.

@@ -7,8 +7,10 @@ use tables::Session;
 use tables::Stamp;
 use tables::Value;
 ghost use mathlib.Core.Path.{_≡_};
-ghost use Prim.Native.Nat.{_<_, _≤_};
+ghost use mathlib.Core.Bool.{true};
+ghost use Prim.Native.Nat.{_%_, _<_, _≤_};
 ghost use Rattle.bits.specs.All.{allBelow};
+ghost use Rattle.bits.specs.Bit.{bit, setBit};
 ghost use Rattle.tables.specs.Damage.{allZero, entryFits};
 ghost use Rattle.damage.specs.Parts.{zeroAt, listed, onceIn, RowsLow, entriesFit, startFits};
 ghost use Rattle.damage.specs.Judged.{sessionJudged};
@@ -80,6 +82,39 @@ fn listed_once(at: &[u16; 32], n: usize) -> bool
     true
 }
 
+// Whether a row's last six bits were seen.
+fn was_seen(seen: u64, row: u32) -> bool
+    ensures { λ r. ⌜ r ≡ bit seen (row % 64) ⌝ }
+{
+    (seen >> (row % 64)) % 2 == 1
+}
+
+// The last six bits of a row, with those that were seen.
+fn with_seen(seen: u64, row: u32) -> u64
+    ensures { λ r. ⌜ r ≡ setBit seen (row % 64) ⌝ }
+{
+    seen | (1 << (row % 64))
+}
+
+// Whether each of the first n entries is a row below `rows` with a target below C, and no two rows end in the same six bits.
+fn list_plain<'a>(at: &'a [u16; 32], to: &'a [u8; 32], n: usize, rows: Row, values: Value) -> bool
+    requires { ⌜ n ≤ 32 ⌝ }
+    ensures { λ r. ⌜ (r ≡ true → (allBelow (listed (values .0) (rows .0) (now (at .entry)) (now (to .entry))) n ≡ true)
+        × (allBelow (onceIn (now (at .entry))) n ≡ true)) ⌝ }
+{
+    let mut seen: u64 = 0;
+    let mut ok = true;
+    let mut i: usize = 0;
+    while i < n {
+        let row = bits::long(at[i]);
+        let target = bits::wide_byte(to[i]);
+        ok = ok & (row < rows.0) & (target < values.0) & !was_seen(seen, row);
+        seen = with_seen(seen, row);
+        i += 1;
+    }
+    ok
+}
+
 // Whether a list of n entries is sound in a session of `rows` rows.
 fn entries_fit<'a>(at: &'a [u16; 32], to: &'a [u8; 32], n: u32, rows: Row, values: Value) -> bool
     ensures { λ r. ⌜ r ≡ entriesFit (now (at .entry)) (now (to .entry)) n (rows .0) (values .0) ⌝ }
@@ -94,6 +129,9 @@ fn entries_fit<'a>(at: &'a [u16; 32], to: &'a [u8; 32], n: u32, rows: Row, value
         return false;
     }
     let count = bits::wide(n);
+    if list_plain(at, to, count, rows, values) {
+        return true;
+    }
     if !list_fits(at, to, count, rows, values) {
         return false;
     }

@@ -1,4 +1,5 @@
--- Chunking does not matter: however an input comes, its lines are read, and a buffer of one byte more than the longest line holds enough of each.
+-- Chunking does not matter: two chunks are read as one, its lines are those of the input, and a buffer of one byte more than the longest line
+-- holds enough of each.
 -- Assumes nothing.
 use mathlib.Core.Path.{_≡_, refl, sym, ap, _∙_}
 use mathlib.Core.Bool.{Bool, true, false, cond}
@@ -15,7 +16,7 @@ use Rattle.bits.specs.Cases.{lt-cases}
 use Rattle.text.specs.Split.{before, split, newline}
 use Rattle.text.specs.Parse.{longestLine, parse}
 use Rattle.text.specs.Lines.{allButLast, lastOf, lastLine, linesOf}
-use Rattle.text.specs.Feed.{cut, pend, heldAll, joined}
+use Rattle.text.specs.Feed.{cut, pend}
 use Rattle.text.proofs.SplitLaws.{split-first}
 
 -- ---- a chunk in two parts
@@ -28,7 +29,7 @@ unfolding cut pend
 cut-more p b l m true e h k = rw (e, h)
 cut-more p b l m false e h k = rw (e, k)
 
-cut-append : (p l m : List ℕ) → cut p (l ++ m) ≡ cut p l ++ cut (pend p l) m
+pub cut-append : (p l m : List ℕ) → cut p (l ++ m) ≡ cut p l ++ cut (pend p l) m
 unfolding cut pend
 cut-append p [] m = refl
 cut-append p (b ∷ l) m = cut-more p b l m (eqb b newline) refl (cut-append [] l m) (cut-append (p ++ b ∷ []) l m)
@@ -41,7 +42,7 @@ unfolding pend
 pend-more p b l m true e h k = rw (e, h)
 pend-more p b l m false e h k = rw (e, k)
 
-pend-append : (p l m : List ℕ) → pend p (l ++ m) ≡ pend (pend p l) m
+pub pend-append : (p l m : List ℕ) → pend p (l ++ m) ≡ pend (pend p l) m
 unfolding pend
 pend-append p [] m = refl
 pend-append p (b ∷ l) m = pend-more p b l m (eqb b newline) refl (pend-append [] l m) (pend-append (p ++ b ∷ []) l m)
@@ -80,7 +81,7 @@ front-none : (l : List ℕ) → front [] (split newline l) ≡ split newline l
 unfolding front
 front-none l = rw (split-first newline l)
 
-one-chunk : (l : List ℕ) → cut [] l ++ lastLine (pend [] l) ≡ linesOf l
+pub one-chunk : (l : List ℕ) → cut [] l ++ lastLine (pend [] l) ≡ linesOf l
 unfolding linesOf
 one-chunk l = rw (cut-split [] l, pend-split [] l, front-none l)
 
@@ -94,7 +95,7 @@ take-one m p q b e = go m p ∙ ap (λ (l : List ℕ). take m (l ++ b ∷ [])) e
     go (suc m) [] = refl
     go (suc m) (x ∷ p) = rw (go m p)
 
-cut-same : (m : ℕ) (p q l : List ℕ) → take m p ≡ take m q → map (take m) (cut p l) ≡ map (take m) (cut q l)
+pub cut-same : (m : ℕ) (p q l : List ℕ) → take m p ≡ take m q → map (take m) (cut p l) ≡ map (take m) (cut q l)
 unfolding cut
 cut-same m p q [] e = refl
 cut-same m p q (b ∷ l) e = go (eqb b newline) (cut-same m (p ++ b ∷ []) (q ++ b ∷ []) l (take-one m p q b e))
@@ -104,7 +105,7 @@ cut-same m p q (b ∷ l) e = go (eqb b newline) (cut-same m (p ++ b ∷ []) (q +
     go true h = rw e
     go false h = h
 
-pend-same : (m : ℕ) (p q l : List ℕ) → take m p ≡ take m q → take m (pend p l) ≡ take m (pend q l)
+pub pend-same : (m : ℕ) (p q l : List ℕ) → take m p ≡ take m q → take m (pend p l) ≡ take m (pend q l)
 unfolding pend
 pend-same m p q [] e = e
 pend-same m p q (b ∷ l) e = go (eqb b newline) (pend-same m (p ++ b ∷ []) (q ++ b ∷ []) l (take-one m p q b e))
@@ -114,31 +115,15 @@ pend-same m p q (b ∷ l) e = go (eqb b newline) (pend-same m (p ++ b ∷ []) (q
     go true h = refl
     go false h = h
 
-last-held : (m : ℕ) (p : List ℕ) → 0 < m → lastLine (take m p) ≡ map (take m) (lastLine p)
+pub last-held : (m : ℕ) (p : List ℕ) → 0 < m → lastLine (take m p) ≡ map (take m) (lastLine p)
 unfolding lastLine
 last-held zero p h = absurd (omega arith)
 last-held (suc m) [] h = refl
 last-held (suc m) (b ∷ p) h = refl
 
-held-append : (m : ℕ) (a b : List (List ℕ)) → map (take m) (a ++ b) ≡ map (take m) a ++ map (take m) b
+pub held-append : (m : ℕ) (a b : List (List ℕ)) → map (take m) (a ++ b) ≡ map (take m) a ++ map (take m) b
 held-append m [] b = refl
 held-append m (l ∷ a) b = rw (held-append m a b)
-
-chunks : (m : ℕ) (p : List ℕ) (cs : List (List ℕ)) → 0 < m → heldAll m (take m p) cs ≡ map (take m) (cut p (joined cs) ++ lastLine (pend p (joined cs)))
-unfolding heldAll joined cut pend
-chunks m p [] h = last-held m p h
-chunks m p (c ∷ cs) h =
-    let t : take m (take m p) ≡ take m p = take-take m m p (omega arith) in
-    rw (cut-same m (take m p) p c t, pend-same m (take m p) p c t, chunks m (pend p c) cs h, cut-append p c (joined cs), pend-append p c (joined cs), append-assoc)
-    (sym (held-append m (cut p c) (cut (pend p c) (joined cs) ++ lastLine (pend (pend p c) (joined cs)))))
-
--- the lines that are read of any chunks are those of the input, the first m bytes of each
-pub any-chunks : (m : ℕ) (cs : List (List ℕ)) → 0 < m → heldAll m [] cs ≡ map (take m) (linesOf (joined cs))
-any-chunks m cs h = ap (λ (p : List ℕ). heldAll m p cs) (sym (none-held m)) ∙ chunks m [] cs h ∙ rw (one-chunk (joined cs))
-  where
-    none-held : (m : ℕ) → _≡_ {A = List ℕ} (take m []) []
-    none-held zero = refl
-    none-held (suc m) = refl
 
 -- ---- a line of which more bytes are held than the longest line has means what it means whole
 
@@ -153,10 +138,6 @@ parse-held m line h = go (lt-cases longestLine (length line))
     go (inl l) = long-none (take m line) (omega (arith, length-take m line)) ∙ sym (long-none line l)
     go (inr l) = rw (take-all m line (omega arith))
 
-parse-all : (m : ℕ) (ls : List (List ℕ)) → longestLine < m → map parse (map (take m) ls) ≡ map parse ls
+pub parse-all : (m : ℕ) (ls : List (List ℕ)) → longestLine < m → map parse (map (take m) ls) ≡ map parse ls
 parse-all m [] h = refl
 parse-all m (l ∷ ls) h = rw (parse-held m l h, parse-all m ls h)
-
--- whatever the chunks, the calls that are read are those of the input's lines
-pub chunks-mean : (m : ℕ) (cs : List (List ℕ)) → longestLine < m → map parse (heldAll m [] cs) ≡ map parse (linesOf (joined cs))
-chunks-mean m cs h = rw (any-chunks m cs (omega arith)) (parse-all m (linesOf (joined cs)) h)

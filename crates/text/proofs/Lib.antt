@@ -4,6 +4,7 @@ pub mod WordLaws
 pub mod FieldLaws
 pub mod CellLaws
 pub mod ColumnLaws
+pub mod ShortLaws
 pub mod RequestLaws
 pub mod ReadLaws
 pub mod FeedLaws

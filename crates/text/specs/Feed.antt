@@ -9,7 +9,6 @@ use lib.ListN.{length, take, drop}
 use lib.Seq.{sets}
 use Rattle.text.specs.declared.feed.Fed.{Fed}
 use Rattle.text.specs.Split.{newline}
-use Rattle.text.specs.Lines.{lastLine}
 
 -- the lines that a chunk ends after pending bytes
 unfoldable pub cut : List ℕ → List ℕ → List (List ℕ)
@@ -20,16 +19,6 @@ cut p (b ∷ l) = cond (eqb b newline) (p ∷ cut [] l) (cut (p ++ b ∷ []) l)
 unfoldable pub pend : List ℕ → List ℕ → List ℕ
 pend p [] = p
 pend p (b ∷ l) = cond (eqb b newline) (pend [] l) (pend (p ++ b ∷ []) l)
-
--- the lines of all chunks after pending bytes, of which no more than m are held, and of a line not either
-unfoldable pub heldAll : ℕ → List ℕ → List (List ℕ) → List (List ℕ)
-heldAll m p [] = lastLine p
-heldAll m p (c ∷ cs) = map (take m) (cut p c) ++ heldAll m (take m (pend p c)) cs
-
--- all chunks in a row
-unfoldable pub joined : List (List ℕ) → List ℕ
-joined [] = []
-joined (c ∷ cs) = c ++ joined cs
 
 -- ---- what the code promises
 

@@ -7,5 +7,6 @@ pub mod Lines
 pub mod Places
 pub mod Words
 pub mod Cells
+pub mod Short
 pub mod Asked
 pub mod Feed

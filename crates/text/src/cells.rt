@@ -3,6 +3,7 @@
 use crate::fields;
 use crate::fields::Field;
 ghost use mathlib.Core.Path.{_≡_};
+ghost use mathlib.Core.Bool.{true};
 ghost use mathlib.Core.List.{[], _∷_};
 ghost use Prim.Native.Nat.{_+_, _*_, _<_, _≤_};
 ghost use lib.ListN.{length};
@@ -11,6 +12,7 @@ ghost use Rattle.text.specs.Split.{space};
 ghost use Rattle.text.specs.Parse.{small};
 ghost use Rattle.text.specs.Places.{partAt, fieldBy, tag};
 ghost use Rattle.text.specs.Cells.{byteOf, Stored};
+ghost use Rattle.text.specs.Short.{shortKnown, shortValue, turnedBytes, Turned, Short};
 
 // How many values a column has.
 pub enum Cells {
@@ -118,7 +120,7 @@ fn cell_at(line: &[u8], at: usize) -> Field
 }
 
 // The cells after the space at `start`, into `column`: each takes two bytes of the line at least.
-pub fn cells_into(line: &[u8], start: usize, column: &mut [u8]) -> Cells
+fn cells_into(line: &[u8], start: usize, column: &mut [u8]) -> Cells
     requires { ⌜ length (now line) ≤ start + 2 * length (now column) ⌝ }
     ensures { λ r. ⌜ Stored (now (line .entry)) start (now (column .entry)) (now (column .exit)) r ⌝ }
 {
@@ -134,4 +136,90 @@ pub fn cells_into(line: &[u8], start: usize, column: &mut [u8]) -> Cells
         at = cell.next;
     }
     Cells::Count(n)
+}
+
+// Whether a byte is a cell by itself: a digit, or `-`.
+fn short_known(b: u8) -> bool
+    ensures { λ r. ⌜ r ≡ shortKnown b ⌝ }
+{
+    fields::is_digit(b) | (b == 45)
+}
+
+// The cell of such a byte.
+fn short_value(b: u8) -> u8
+    requires { ⌜ shortKnown b ≡ true ⌝ }
+    ensures { λ r. ⌜ r ≡ shortValue b ⌝ }
+{
+    if b == 45 { 255 } else { b - 48 }
+}
+
+// Whether a cell of one byte follows a space, and a space a cell.
+fn turned(a: u8, b: u8) -> bool
+    ensures { λ r. ⌜ r ≡ turnedBytes a b ⌝ }
+{
+    if a == 32 { short_known(b) } else { b == 32 }
+}
+
+// Whether each byte from `from` on, n of them, is followed so.
+fn all_turned(line: &[u8], from: usize, n: usize) -> bool
+    requires { ⌜ from + n < length (now line) ⌝ }
+    ensures { λ r. ⌜ (r ≡ true → Turned (now (line .entry)) from (from + n)) ⌝ }
+{
+    let e = from + n;
+    let mut ok = true;
+    let mut j = from;
+    while j < e {
+        ok = ok & turned(line[j], line[j + 1]);
+        j += 1;
+    }
+    ok
+}
+
+// Whether the cells after the space at `start` have one byte each; not asked where values have two digits.
+fn all_short(line: &[u8], start: usize, c: u64) -> bool
+    ensures { λ r. ⌜ (r ≡ true → Short (now (line .entry)) start) ⌝ }
+{
+    if 10 < c {
+        return false;
+    }
+    if line.len() <= start {
+        return false;
+    }
+    let n = line.len() - start;
+    if n % 2 != 0 {
+        return false;
+    }
+    if start == 0 {
+        return false;
+    }
+    let before = start - 1;
+    if line[before] == 32 {
+        return false;
+    }
+    all_turned(line, before, n)
+}
+
+// Such cells, into `column`.
+fn short_into(line: &[u8], start: usize, column: &mut [u8]) -> Cells
+    requires { ⌜ (length (now line) ≤ start + 2 * length (now column)) × Short (now line) start ⌝ }
+    ensures { λ r. ⌜ Stored (now (line .entry)) start (now (column .entry)) (now (column .exit)) r ⌝ }
+{
+    let m = (line.len() - start) / 2;
+    let mut k: usize = 0;
+    while k < m {
+        column[k] = short_value(line[start + 2 * k + 1]);
+        k += 1;
+    }
+    Cells::Count(m)
+}
+
+// The cells after the space at `start`, into `column`, of a column whose C is c.
+pub fn column_into(line: &[u8], start: usize, column: &mut [u8], c: u64) -> Cells
+    requires { ⌜ length (now line) ≤ start + 2 * length (now column) ⌝ }
+    ensures { λ r. ⌜ Stored (now (line .entry)) start (now (column .entry)) (now (column .exit)) r ⌝ }
+{
+    if all_short(line, start, c) {
+        return short_into(line, start, column);
+    }
+    cells_into(line, start, column)
 }

@@ -112,7 +112,7 @@ pub fn column_request(line: &[u8], at: usize, column: &mut [u8]) -> Request
     if 254 < first.value {
         return unread();
     }
-    let filled = cells::cells_into(line, first.next, column);
+    let filled = cells::column_into(line, first.next, column, first.value);
     let Cells::Count(n) = filled else {
         return unread();
     };

@@ -1,17 +1,18 @@
 -- Laws of bytes written one after another: digits, numbers, answers.
 -- Assumes nothing.
-use mathlib.Core.Path.{_≡_, refl, _∙_}
+use mathlib.Core.Path.{_≡_, refl, ap, _∙_}
 use mathlib.Core.List.{List, [], _∷_, _++_}
 use mathlib.Core.Option.{none}
 use Prim.Native.Nat.{ℕ, suc, _+_, _-_, _*_, _/_, _%_, _^_, _<_, _≤_}
 use native.Mathlib.Omega.{arith}
-use lib.ListN.{length, set, length-append, length-set}
+use lib.ListN.{length, getD, set, length-append, length-set}
 use lib.Seq.{sets}
+use Rattle.bits.specs.Tab.{tab, length-tab, getD-tab}
 use Rattle.rules.specs.Calls.{Answer, refused, ok, value}
 use Rattle.text.specs.Bytes.{bytes}
 use Rattle.text.specs.Split.{newline}
 use Rattle.text.specs.Show.{decimal, spaced, show}
-use Rattle.writing.specs.Wrote.{Wrote, Answered, twoDigits, fourDigits, fieldOf}
+use Rattle.writing.specs.Wrote.{Wrote, Answered, twoDigits, fourDigits, pairByte, pairs, fieldOf}
 use Rattle.writing.proofs.ShowLaws.{decimal-digit, decimal-2, decimal-3, decimal-4, decimal-large, decimal-fits, spaced-one, ok-append}
 
 -- ---- one after another
@@ -40,6 +41,24 @@ wrote-two d e f at m n t a b r o p q u v =
     let x : a ≡ 48 + n / 10 = omega arith in
     let y : b ≡ 48 + n % 10 = omega arith in
     rw (← x, ← y) (wrote-then d (a ∷ []) e (b ∷ []) f at m r u v)
+
+-- two digits from the text of the numbers below 100
+pub pairs-length : (text : List ℕ) → text ≡ pairs → length text ≡ 200
+unfolding pairs
+pairs-length text e = ap length e ∙ length-tab pairByte 200
+
+pub wrote-pair : (d e f text : List ℕ) (at m n w i r : ℕ) → n < 100 → text ≡ pairs → w ≡ n → i ≡ 2 * w → Wrote d at (getD text i 0 ∷ []) e m
+    → Wrote e m (getD text (i + 1) 0 ∷ []) f r → Wrote d at (twoDigits n) f r
+unfolding twoDigits pairs pairByte
+wrote-pair d e f text at m n w i r h t p q u v =
+    let k : i ≡ 2 * n = omega arith in
+    let a : 2 * n % 2 ≡ 0 = omega arith in
+    let b : (2 * n + 1) % 2 ≡ 1 = omega arith in
+    let c : 2 * n / 2 ≡ n = omega arith in
+    let g : (2 * n + 1) / 2 ≡ n = omega arith in
+    let x : getD text i 0 ≡ 48 + n / 10 = rw (t, k) (getD-tab pairByte 200 (2 * n) 0 (omega arith) ∙ rw (a, c)) in
+    let y : getD text (i + 1) 0 ≡ 48 + n % 10 = rw (t, k) (getD-tab pairByte 200 (2 * n + 1) 0 (omega arith) ∙ rw (b, g)) in
+    rw (← x, ← y) (wrote-then d (getD text i 0 ∷ []) e (getD text (i + 1) 0 ∷ []) f at m r u v)
 
 pub wrote-four : (d e f : List ℕ) (at m n r : ℕ) → Wrote d at (twoDigits (n / 100)) e m → Wrote e m (twoDigits (n % 100)) f r → Wrote d at (fourDigits n) f r
 unfolding fourDigits

@@ -1,12 +1,15 @@
 -- Bytes written into lent bytes from a place on, and the digits that are written at once.
 -- Assumes nothing.
 use mathlib.Core.Path.{_≡_}
+use mathlib.Core.Bool.{cond}
 use mathlib.Core.List.{List, [], _∷_, _++_, map}
 use Prim.Native.Nat.{ℕ, _+_, _/_, _%_, _≤_}
+use lib.Dec.{eqb}
 use lib.ListN.{length}
 use lib.Seq.{sets}
 use Rattle.bits.specs.Bit.{bit}
 use Rattle.bits.specs.Rows.{rowsBelow}
+use Rattle.bits.specs.Tab.{tab}
 use Rattle.rules.specs.Calls.{Answer}
 use Rattle.text.specs.Split.{space}
 use Rattle.text.specs.Show.{decimal, show}
@@ -29,6 +32,13 @@ twoDigits n = (48 + n / 10) ∷ (48 + n % 10) ∷ []
 -- the digits of a number below 10,000, leading zeros too
 unfoldable pub fourDigits : ℕ → List ℕ
 fourDigits n = twoDigits (n / 100) ++ twoDigits (n % 100)
+
+-- the text of the numbers below 100, two digits each
+unfoldable pub pairByte : ℕ → ℕ
+pairByte k = 48 + cond (eqb (k % 2) 0) (k / 2 / 10) (k / 2 % 10)
+
+unfoldable pub pairs : List ℕ
+pairs = tab pairByte 200
 
 -- a number after a space
 abbrev pub fieldOf : ℕ → List ℕ

@@ -1,6 +1,7 @@
 // An answer written as bytes. The functions are on slices alone, and require no more than room. Assumes nothing.
 mod answers;
 mod numbers;
+mod pairs;
 mod rows;
 
 pub use answers::put_absent;

@@ -17,7 +17,7 @@ pub fn put_byte(out: &mut [u8], at: usize, b: u8) -> usize
 }
 
 // The byte of a digit.
-fn glyph(x: u32) -> u8
+pub fn glyph(x: u32) -> u8
     requires { ⌜ x < 10 ⌝ }
     ensures { λ r. ⌜ r ≡ 48 + x ⌝ }
 {
@@ -52,7 +52,7 @@ fn put_four(out: &mut [u8], at: usize, x: u32) -> usize
 }
 
 // A number below 10,000.
-pub fn put_small(out: &mut [u8], at: usize, x: u32) -> usize
+fn put_small(out: &mut [u8], at: usize, x: u32) -> usize
     requires { ⌜ (x < 10000) × (at + 4 ≤ length (now out)) ⌝ }
     ensures { λ r. ⌜ Wrote (now (out .entry)) at (decimal x) (now (out .exit)) r ⌝ }
 {

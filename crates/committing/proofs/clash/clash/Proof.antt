@@ -9,7 +9,8 @@ use Rattle.bits.specs.Tab.{tab}
 use Rattle.rules.specs.Commit.{conflicts}
 use Rattle.tables.specs.Stretch.{stretch}
 use Rattle.tables.specs.Meaning.{changeAt, recordAt, entries}
-use Rattle.committing.proofs.ClashLaws.{recordHits, entriesHit, recordsHit, entries-on, entries-start, records-start, records-ended, records-on, records-met, end-low}
+use Rattle.committing.proofs.ClashLaws.{none-clash, recordHits, entriesHit, recordsHit, entries-on, entries-start, records-start}
+use Rattle.committing.proofs.ClashLaws.{records-ended, records-on, records-met, end-low}
 use Rattle.committing.proofs.clash.clash.Statement.{statement}
 use Rattle.committing.proofs.clash.clash.Tie as tie
 
@@ -25,6 +26,12 @@ Inv-records log changes s n stamp found₀ k₀ found k = (found ≡ false) × (
 abbrev μ-records : tie.MeasureT-records
 μ-records log changes s n stamp found₀ k₀ found k = stamp - k
 
+none-named-requires : tie.Need-none-named-requires Inv-loop μ-loop Inv-records μ-records
+none-named-requires c κs = search needs
+
+returns : tie.Need-returns Inv-loop μ-loop Inv-records μ-records
+returns c = search (none-clash, c .before .none-named .ensures)
+
 wide-requires : tie.Need-wide-requires Inv-loop μ-loop Inv-records μ-records
 wide-requires c κs = search needs
 
@@ -34,8 +41,8 @@ records-holds c = (refl, search records-start)
 end-at-requires : tie.Need-end-at-requires Inv-loop μ-loop Inv-records μ-records
 end-at-requires c κs = search needs
 
-add-t15 : tie.Need-add-t15 Inv-loop μ-loop Inv-records μ-records
-add-t15 c = omega arith
+add-t16 : tie.Need-add-t16 Inv-loop μ-loop Inv-records μ-records
+add-t16 c = omega arith
 
 end-at-requires-2 : tie.Need-end-at-requires-2 Inv-loop μ-loop Inv-records μ-records
 end-at-requires-2 c κs = search needs
@@ -64,11 +71,11 @@ records-less c = omega arith
 records-again : tie.Need-records-again Inv-loop μ-loop Inv-records μ-records
 records-again c = (search needs, search records-on)
 
-returns : tie.Need-returns Inv-loop μ-loop Inv-records μ-records
-returns c = search records-ended
-
 returns-2 : tie.Need-returns-2 Inv-loop μ-loop Inv-records μ-records
-returns-2 c = search records-met
+returns-2 c = search records-ended
+
+returns-3 : tie.Need-returns-3 Inv-loop μ-loop Inv-records μ-records
+returns-3 c = search records-met
 
 pub clash-spec : {M : Type 1} → statement M
 clash-spec =
@@ -78,10 +85,12 @@ clash-spec =
     μ-loop
     Inv-records
     μ-records
+    none-named-requires
+    returns
     wide-requires
     records-holds
     end-at-requires
-    add-t15
+    add-t16
     end-at-requires-2
     loop-holds
     entry-named-requires
@@ -91,5 +100,5 @@ clash-spec =
     add-k
     records-less
     records-again
-    returns
-    returns-2)
+    returns-2
+    returns-3)

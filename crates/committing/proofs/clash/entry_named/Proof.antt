@@ -17,12 +17,12 @@ returns c = search insert-unnamed
 long-requires : tie.Need-long-requires
 long-requires c κs = search needs
 
-named-requires : tie.Need-named-requires
-named-requires c κs = search needs
+row-named-requires : tie.Need-row-named-requires
+row-named-requires c κs = search needs
 
 returns-2 : tie.Need-returns-2
 returns-2 c = search row-named
 
 pub entry-named-spec : {M : Type 1} → statement M
 entry-named-spec =
-    tie.close (tie.spec mul-at element-copy-out-at returns long-requires named-requires returns-2)
+    tie.close (tie.spec mul-at element-copy-out-at returns long-requires row-named-requires returns-2)

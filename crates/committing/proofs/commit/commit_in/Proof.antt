@@ -1,7 +1,7 @@
 -- `commit::commit_in` meets its contract: refused by the shared tests, or the rest of the call decides.
 -- Assumes nothing.
 use borrow.Author.Needs.{needs}
-use Rattle.listing.proofs.ChangeCores.{opened-usable}
+use Rattle.calls.proofs.OpenLaws.{opened-usable}
 use Rattle.committing.proofs.CommitCores.{commit-refused, commit-on}
 use Rattle.committing.proofs.commit.commit_in.Statement.{statement}
 use Rattle.committing.proofs.commit.commit_in.Tie as tie
@@ -12,14 +12,16 @@ opened-requires c κs = search needs
 enum-known-test : tie.Need-enum-known-test
 enum-known-test c = search needs
 
-refused-requires : tie.Need-refused-requires
-refused-requires c κs = search needs
+none-freed-requires : tie.Need-none-freed-requires
+none-freed-requires c κs = search needs
 
 enum-told : tie.Need-enum-told
 enum-told c = search needs
 
 commit-now-requires : tie.Need-commit-now-requires
-commit-now-requires c κs = opened-usable _ _ _ _ _ _ _ _ _ (c .before .before .before .before .before .opened .ensures) (c .before .before .before .enum-told .given .1)
+commit-now-requires c κs =
+    opened-usable _ _ _ _ _ _ _ _ _ (c .before .before .before .before .before .opened .ensures)
+    (c .before .before .before .enum-told .given .1)
 
 same-length : tie.Need-same-length
 same-length c = search needs
@@ -51,7 +53,7 @@ commit-in-spec =
     (tie.spec
     opened-requires
     enum-known-test
-    refused-requires
+    none-freed-requires
     enum-told
     commit-now-requires
     same-length

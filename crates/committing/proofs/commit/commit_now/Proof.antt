@@ -12,20 +12,23 @@ ready-requires c κs = search commit-asked
 enum-known-go : tie.Need-enum-known-go
 enum-known-go c = search needs
 
-refused-requires : tie.Need-refused-requires
-refused-requires c κs = search needs
+none-freed-requires : tie.Need-none-freed-requires
+none-freed-requires c κs = search needs
 
 enum-told : tie.Need-enum-told
 enum-told c = search needs
 
 commit-work-requires : tie.Need-commit-work-requires
-commit-work-requires c κs = search (now-ready, c .before .before .before .before .before .before .before .before .before .before .before .before .before .before .before .pre, c .before .before .before .before .before .ready .ensures, c .before .before .before .enum-told .given)
+commit-work-requires c κs =
+    search (
+      now-ready,
+      c .before .before .before .before .before .before .before .before .before .before .before .before .before .before .before .pre,
+      c .before .before .before .before .before .ready .ensures,
+      c .before .before .before .enum-told .given,
+    )
 
-free-session-requires : tie.Need-free-session-requires
-free-session-requires c κs = search needs
-
-seated-requires : tie.Need-seated-requires
-seated-requires c κs = search needs
+made-free-requires : tie.Need-made-free-requires
+made-free-requires c κs = search needs
 
 same-length : tie.Need-same-length
 same-length c = search needs
@@ -49,7 +52,7 @@ same-length-6 : tie.Need-same-length-6
 same-length-6 c = search needs
 
 returns-2 : tie.Need-returns-2
-returns-2 c = now-done _ _ _ _ _ _ _ _ _ (c .before .before .before .before .before .before .before .before .before .before .before .before .before .before .ready .ensures) (c .before .before .before .before .before .before .before .before .before .before .before .before .enum-told .given .1) _ _ _ _ _ _ (c .before .before .before .before .before .before .before .before .commit-work .ensures) (c .before .free-session .ensures) (c .seated .ensures)
+returns-2 c = search now-done
 
 pub commit-now-spec : {M : Type 1} → statement M
 commit-now-spec =
@@ -57,11 +60,10 @@ commit-now-spec =
     (tie.spec
     ready-requires
     enum-known-go
-    refused-requires
+    none-freed-requires
     enum-told
     commit-work-requires
-    free-session-requires
-    seated-requires
+    made-free-requires
     same-length
     same-length-2
     same-length-3

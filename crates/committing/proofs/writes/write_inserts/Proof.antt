@@ -7,12 +7,14 @@ use native.Mathlib.Omega.{arith}
 use borrow.Author.Needs.{needs}
 use lib.ListN.{length}
 use Rattle.committing.specs.Commit.{InsertsStored}
-use Rattle.committing.proofs.WriteLaws.{inserts-start, insert-place, inserts-more, inserts-skip, inserts-all, length-put, length-kept}
+use Rattle.committing.proofs.WriteLaws.{length-put, length-kept}
+use Rattle.committing.proofs.WriteLaws.{inserts-start, insert-place, insert-row, inserts-more, inserts-skip, inserts-all}
 use Rattle.committing.proofs.writes.write_inserts.Statement.{statement}
 use Rattle.committing.proofs.writes.write_inserts.Tie as tie
 
 abbrev Inv-loop : tie.InvT-loop
-Inv-loop changes₀ from s n p₀ row₀ i₀ changes p row i = (i ≤ n) × (length changes ≡ length changes₀) × (p ≤ from + i) × (row ≤ row₀ + i) × InsertsStored s from row₀ changes₀ changes i p row
+Inv-loop changes₀ from s n p₀ row₀ i₀ changes p row i =
+    (i ≤ n) × (length changes ≡ length changes₀) × (p ≤ from + i) × InsertsStored s from (row₀ .0) changes₀ changes i p (row .0)
 
 abbrev μ-loop : tie.MeasureT-loop
 μ-loop changes₀ from s n p₀ row₀ i₀ changes p row i = n - i
@@ -21,7 +23,7 @@ wide-requires : tie.Need-wide-requires Inv-loop μ-loop
 wide-requires c κs = search needs
 
 loop-holds : tie.Need-loop-holds Inv-loop μ-loop
-loop-holds c = (omega arith, refl, omega arith, omega arith, search inserts-start)
+loop-holds c = (omega arith, refl, omega arith, search inserts-start)
 
 mul-if1 : tie.Need-mul-if1 Inv-loop μ-loop
 mul-if1 c = omega arith
@@ -35,8 +37,8 @@ write-insert-requires c κs = (omega arith, search insert-place, omega arith)
 add-p : tie.Need-add-p Inv-loop μ-loop
 add-p c = omega arith
 
-add-row : tie.Need-add-row Inv-loop μ-loop
-add-row c = omega arith
+next-row-requires : tie.Need-next-row-requires Inv-loop μ-loop
+next-row-requires c κs = search insert-row
 
 add-i : tie.Need-add-i Inv-loop μ-loop
 add-i c = omega arith
@@ -45,7 +47,9 @@ loop-less : tie.Need-loop-less Inv-loop μ-loop
 loop-less c = omega arith
 
 loop-again : tie.Need-loop-again Inv-loop μ-loop
-loop-again c = ⊎-elim (λ w. (omega arith, search length-put, omega arith, omega arith, search inserts-more)) (λ w. (omega arith, search length-kept, omega arith, omega arith, search inserts-skip)) (c .if1 .came)
+loop-again c =
+    ⊎-elim (λ w. (omega arith, search length-put, omega arith, search inserts-more))
+    (λ w. (omega arith, search length-kept, omega arith, search inserts-skip)) (c .if1 .came)
 
 same-length : tie.Need-same-length Inv-loop μ-loop
 same-length c = search needs
@@ -65,7 +69,7 @@ write-inserts-spec =
     element-copy-out-if1
     write-insert-requires
     add-p
-    add-row
+    next-row-requires
     add-i
     loop-less
     loop-again

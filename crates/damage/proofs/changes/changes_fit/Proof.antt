@@ -2,7 +2,7 @@
 -- Assumes nothing.
 use native.Mathlib.Omega.{arith}
 use borrow.Author.Needs.{needs}
-use Rattle.damage.proofs.ClockLaws.{low-records, low-changes}
+use Rattle.damage.proofs.ClockLaws.{low-records, low-sets}
 use Rattle.damage.proofs.ChangeLaws.{rising, bad-sets, each-rows}
 use Rattle.damage.proofs.changes.changes_fit.Statement.{statement}
 use Rattle.damage.proofs.changes.changes_fit.Tie as tie
@@ -16,8 +16,8 @@ changes-used-requires c κs = search needs
 wide-requires : tie.Need-wide-requires
 wide-requires c κs = search needs
 
-sets-of-requires : tie.Need-sets-of-requires
-sets-of-requires c κs = (search low-changes, omega arith)
+gathered-requires : tie.Need-gathered-requires
+gathered-requires c κs = search low-sets
 
 all-below-requires : tie.Need-all-below-requires
 all-below-requires c κs = search needs
@@ -41,7 +41,7 @@ changes-fit-spec =
     clock-of-requires
     changes-used-requires
     wide-requires
-    sets-of-requires
+    gathered-requires
     all-below-requires
     returns
     wide-requires-2

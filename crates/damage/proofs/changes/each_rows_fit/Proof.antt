@@ -9,7 +9,7 @@ use Rattle.tables.specs.Cells.{endAt}
 use Rattle.tables.specs.Damage.{allIn}
 use Rattle.damage.specs.Parts.{recordRowsFit}
 use Rattle.damage.proofs.Fold.{below-in, scan-end}
-use Rattle.damage.proofs.ChangeLaws.{stretch-again, stretch-fails, stretch-low, stretch-ends}
+use Rattle.damage.proofs.ChangeLaws.{stretch-again, stretch-fails, stretch-order, stretch-low, stretch-ends}
 use Rattle.damage.proofs.changes.each_rows_fit.Statement.{statement}
 use Rattle.damage.proofs.changes.each_rows_fit.Tie as tie
 use Rattle.bits.proofs.wide.Reads as wide-reads
@@ -51,7 +51,7 @@ wide-requires : tie.Need-wide-requires Inv-loop μ-loop
 wide-requires c κs = search needs
 
 rows-below-requires : tie.Need-rows-below-requires Inv-loop μ-loop
-rows-below-requires c κs = (search stretch-low, omega arith)
+rows-below-requires c κs = (search stretch-order, search stretch-low, omega arith)
 
 returns : tie.Need-returns Inv-loop μ-loop
 returns c = search stretch-fails

@@ -1,53 +1,25 @@
--- `rows_below` meets its contract: a fold; the whole is what was found so far and the rest.
+-- `rows_below` meets its contract: against 2,048 by the bits of all rows together, else one by one.
 -- Assumes nothing.
-use mathlib.Core.Path.{_≡_, refl}
-use mathlib.Core.Bool.{_&&_}
-use Prim.Native.Nat.{_-_}
-use native.Mathlib.Omega.{arith}
-use Rattle.tables.specs.Damage.{allIn}
-use Rattle.damage.specs.Parts.{rowBelow}
-use Rattle.damage.proofs.Fold.{fold-again, fold-end}
+use borrow.Author.Needs.{needs}
+use Rattle.damage.proofs.GatherLaws.{rows-gathered}
 use Rattle.damage.proofs.changes.rows_below.Statement.{statement}
 use Rattle.damage.proofs.changes.rows_below.Tie as tie
 
-abbrev Inv-loop : tie.InvT-loop
-Inv-loop changes from to rows ok₀ p₀ ok p = allIn (rowBelow changes (rows .0)) from to ≡ ok && allIn (rowBelow changes (rows .0)) p to
+sub-gathered : tie.Need-sub-gathered
+sub-gathered c = search needs
 
-abbrev μ-loop : tie.MeasureT-loop
-μ-loop changes from to rows ok₀ p₀ ok p = to - p
+gathered-requires : tie.Need-gathered-requires
+gathered-requires c κs = search needs
 
-loop-holds : tie.Need-loop-holds Inv-loop μ-loop
-loop-holds c = refl
+returns : tie.Need-returns
+returns c = search rows-gathered
 
-mul-ok : tie.Need-mul-ok Inv-loop μ-loop
-mul-ok c = omega arith
+rows-below-each-requires : tie.Need-rows-below-each-requires
+rows-below-each-requires c κs = search needs
 
-shared-slice-read-ok : tie.Need-shared-slice-read-ok Inv-loop μ-loop
-shared-slice-read-ok c = omega arith
-
-add-p : tie.Need-add-p Inv-loop μ-loop
-add-p c = omega arith
-
-loop-less : tie.Need-loop-less Inv-loop μ-loop
-loop-less c = omega arith
-
-loop-again : tie.Need-loop-again Inv-loop μ-loop
-unfolding rowBelow
-loop-again c = search fold-again
-
-returns : tie.Need-returns Inv-loop μ-loop
-returns c = search fold-end
+returns-2 : tie.Need-returns-2
+returns-2 c = search needs
 
 pub rows-below-spec : {M : Type 1} → statement M
 rows-below-spec =
-    tie.close
-    (tie.spec
-    Inv-loop
-    μ-loop
-    loop-holds
-    mul-ok
-    shared-slice-read-ok
-    add-p
-    loop-less
-    loop-again
-    returns)
+    tie.close (tie.spec sub-gathered gathered-requires returns rows-below-each-requires returns-2)

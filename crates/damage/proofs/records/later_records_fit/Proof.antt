@@ -1,47 +1,23 @@
--- `later_records_fit` meets its contract: a fold; the whole is what was found so far and the rest.
+-- `later_records_fit` meets its contract: at once, or one by one.
 -- Assumes nothing.
-use mathlib.Core.Path.{_≡_, refl}
-use mathlib.Core.Bool.{_&&_}
-use Prim.Native.Nat.{_-_, _≤_}
-use native.Mathlib.Omega.{arith}
-use Rattle.tables.specs.Damage.{allIn, recordFits}
-use Rattle.damage.proofs.Fold.{fold-again, fold-end}
+use borrow.Author.Needs.{needs}
+use Rattle.damage.proofs.CloseLaws.{close-records}
 use Rattle.damage.proofs.records.later_records_fit.Statement.{statement}
 use Rattle.damage.proofs.records.later_records_fit.Tie as tie
 
-abbrev Inv-loop : tie.InvT-loop
-Inv-loop log n ok₀ k₀ ok k = (1 ≤ k) × (allIn (recordFits 0 log) 1 n ≡ ok && allIn (recordFits 0 log) k n)
+later-records-close-requires : tie.Need-later-records-close-requires
+later-records-close-requires c κs = search needs
 
-abbrev μ-loop : tie.MeasureT-loop
-μ-loop log n ok₀ k₀ ok k = n - k
+returns : tie.Need-returns
+returns c = search (close-records, c .before .later-records-close .ensures)
 
-loop-holds : tie.Need-loop-holds Inv-loop μ-loop
-loop-holds c = (omega arith, refl)
+later-records-fit-each-requires : tie.Need-later-records-fit-each-requires
+later-records-fit-each-requires c κs = search needs
 
-later-record-fits-requires : tie.Need-later-record-fits-requires Inv-loop μ-loop
-later-record-fits-requires c κs = (omega arith, omega arith, omega arith)
-
-add-k : tie.Need-add-k Inv-loop μ-loop
-add-k c = omega arith
-
-loop-less : tie.Need-loop-less Inv-loop μ-loop
-loop-less c = omega arith
-
-loop-again : tie.Need-loop-again Inv-loop μ-loop
-loop-again c = (omega arith, search fold-again)
-
-returns : tie.Need-returns Inv-loop μ-loop
-returns c = search fold-end
+returns-2 : tie.Need-returns-2
+returns-2 c = search needs
 
 pub later-records-fit-spec : {M : Type 1} → statement M
 later-records-fit-spec =
     tie.close
-    (tie.spec
-    Inv-loop
-    μ-loop
-    loop-holds
-    later-record-fits-requires
-    add-k
-    loop-less
-    loop-again
-    returns)
+    (tie.spec later-records-close-requires returns later-records-fit-each-requires returns-2)

@@ -3,6 +3,7 @@
 use native.Mathlib.Omega.{arith}
 use borrow.Author.Needs.{needs}
 use Rattle.damage.proofs.EntryLaws.{long-list, many-rows, many-values, bad-entry, rows-in-vector, short-list, once-decides}
+use Rattle.damage.proofs.PlainLaws.{plain-list}
 use Rattle.damage.proofs.sessions.entries_fit.Statement.{statement}
 use Rattle.damage.proofs.sessions.entries_fit.Tie as tie
 
@@ -18,20 +19,30 @@ returns-3 c = search many-values
 wide-requires : tie.Need-wide-requires
 wide-requires c κs = search needs
 
+list-plain-requires : tie.Need-list-plain-requires
+list-plain-requires c κs = search needs
+
+returns-4 : tie.Need-returns-4
+returns-4 c = search (plain-list, c .before .list-plain .ensures)
+
 list-fits-requires : tie.Need-list-fits-requires
 list-fits-requires c κs = search needs
 
-returns-4 : tie.Need-returns-4
-returns-4 c = search bad-entry
-
 returns-5 : tie.Need-returns-5
-returns-5 c = search short-list
-
-listed-once-requires : tie.Need-listed-once-requires
-listed-once-requires c κs = (omega arith, search rows-in-vector)
+returns-5 c = search bad-entry
 
 returns-6 : tie.Need-returns-6
-returns-6 c = search once-decides
+returns-6 c = search short-list
+
+listed-once-requires : tie.Need-listed-once-requires
+listed-once-requires c κs = (
+  omega arith,
+  rows-in-vector _ _ _ _ _ _ _ (c .before .before .before .before .before .wide .ensures)
+      (c .before .before .list-fits .ensures) (omega arith) (c .before .if5 .left),
+)
+
+returns-7 : tie.Need-returns-7
+returns-7 c = search once-decides
 
 pub entries-fit-spec : {M : Type 1} → statement M
 entries-fit-spec =
@@ -41,8 +52,10 @@ entries-fit-spec =
     returns-2
     returns-3
     wide-requires
-    list-fits-requires
+    list-plain-requires
     returns-4
+    list-fits-requires
     returns-5
+    returns-6
     listed-once-requires
-    returns-6)
+    returns-7)

@@ -13,8 +13,8 @@ unread-requires c κs = search needs
 returns : tie.Need-returns
 returns c = search column-stuck
 
-cells-into-requires : tie.Need-cells-into-requires
-cells-into-requires c κs = search needs
+column-into-requires : tie.Need-column-into-requires
+column-into-requires c κs = search needs
 
 enum-known-filled : tie.Need-enum-known-filled
 enum-known-filled c = search needs
@@ -44,7 +44,7 @@ column-request-spec =
     small-at-requires
     unread-requires
     returns
-    cells-into-requires
+    column-into-requires
     enum-known-filled
     enum-told
     unread-requires-2

@@ -9,10 +9,10 @@ use Rattle.writing.proofs.rows.put_rows.Statement.{statement}
 use Rattle.writing.proofs.rows.put_rows.Tie as tie
 
 abbrev Inv-loop : tie.InvT-loop
-Inv-loop out₀ start vector at₀ i₀ out at i = (i ≤ length vector) × Worded vector out₀ out start at i
+Inv-loop out₀ start vector text at₀ i₀ out at i = (i ≤ length vector) × Worded vector out₀ out start at i
 
 abbrev μ-loop : tie.MeasureT-loop
-μ-loop out₀ start vector at₀ i₀ out at i = length vector - i
+μ-loop out₀ start vector text at₀ i₀ out at i = length vector - i
 
 loop-holds : tie.Need-loop-holds Inv-loop μ-loop
 loop-holds c = (omega arith, worded-none _ _ _)
@@ -30,7 +30,12 @@ narrow-requires : tie.Need-narrow-requires Inv-loop μ-loop
 narrow-requires c κs = search needs
 
 put-word-requires : tie.Need-put-word-requires Inv-loop μ-loop
-put-word-requires c κs = let g = c .before .before .before .before .loop .inv .1 in (omega arith, omega (arith, g .far, g .wrote .room))
+put-word-requires c κs = let g = c .before .before .before .before .loop .inv .1 in (
+  omega arith,
+  omega
+      (arith, g .far, g .wrote .room),
+  c .before .before .before .before .before .before .before .before .pre .2,
+)
 
 add-i : tie.Need-add-i Inv-loop μ-loop
 add-i c = search needs

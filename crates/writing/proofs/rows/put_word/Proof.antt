@@ -8,19 +8,32 @@ use Rattle.writing.proofs.rows.put_word.Statement.{statement}
 use Rattle.writing.proofs.rows.put_word.Tie as tie
 
 abbrev Inv-loop : tie.InvT-loop
-Inv-loop out₀ start word base at₀ x₀ out at x = Rowing out₀ out start at word base x
+Inv-loop out₀ start word base text at₀ x₀ out at x = Rowing out₀ out start at word base x
 
 abbrev μ-loop : tie.MeasureT-loop
-μ-loop out₀ start word base at₀ x₀ out at x = length (wordRows x base)
+μ-loop out₀ start word base text at₀ x₀ out at x = length (wordRows x base)
 
 loop-holds : tie.Need-loop-holds Inv-loop μ-loop
-loop-holds c = rowing-none _ _ _ _ (c .before .fits .word .fits)
+loop-holds c = rowing-none _ _ _ _ (c .before .before .fits .word .fits)
 
 add-put-row : tie.Need-add-put-row Inv-loop μ-loop
 add-put-row c = omega (arith, row-lt _ _ _ _ _ _ _ (c .before .before .loop .inv) (c .before .loop-test .taken))
 
 put-row-requires : tie.Need-put-row-requires Inv-loop μ-loop
-put-row-requires c κs = let g = c .before .before .loop .inv in (omega (arith, row-lt _ _ _ _ _ _ _ g (c .before .loop-test .taken)), omega (arith, g .room, row-room _ _ _ _ _ _ _ g (c .before .loop-test .taken)))
+put-row-requires c κs = let g = c .before .before .loop .inv in (
+  omega (
+    arith,
+    row-lt _ _ _ _ _ _ _ g
+        (c .before .loop-test .taken),
+  ),
+  omega (
+    arith,
+    g .room,
+    row-room _ _ _ _ _ _ _ g
+        (c .before .loop-test .taken),
+  ),
+  c .before .before .before .before .before .pre .2,
+)
 
 sub-x : tie.Need-sub-x Inv-loop μ-loop
 sub-x c = omega arith
@@ -29,7 +42,9 @@ loop-less : tie.Need-loop-less Inv-loop μ-loop
 loop-less c = row-less _ _ _ _ _ _ _ (c .before .before .before .before .before .loop .inv) (c .before .before .before .before .loop-test .taken)
 
 loop-again : tie.Need-loop-again Inv-loop μ-loop
-loop-again c = rowing-step _ _ _ _ _ _ _ (c .before .before .before .before .before .loop .inv) (c .before .before .before .before .loop-test .taken) _ _ _ (c .before .before .before .before .before .before .before .pre .0) refl (c .before .before .put-row .ensures)
+loop-again c = rowing-step _ _ _ _ _ _ _ (c .before .before .before .before .before .loop .inv)
+    (c .before .before .before .before .loop-test .taken) _ _ _
+    (c .before .before .before .before .before .before .before .before .pre .0) refl (c .before .before .put-row .ensures)
 
 same-length : tie.Need-same-length Inv-loop μ-loop
 same-length c = c .before .loop .inv .room

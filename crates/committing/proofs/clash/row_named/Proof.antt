@@ -1,0 +1,54 @@
+-- `clash::row_named` meets its contract: a fold; the whole is what was found so far and the rest.
+-- Assumes nothing.
+use mathlib.Core.Path.{_≡_, refl}
+use mathlib.Core.Bool.{_||_}
+use Prim.Native.Nat.{_-_}
+use native.Mathlib.Omega.{arith}
+use Rattle.rules.specs.Log.{names}
+use Rattle.tables.specs.Meaning.{changeAt}
+use Rattle.tables.specs.Stretch.{stretch}
+use Rattle.committing.proofs.ClashLaws.{row-again, row-end}
+use Rattle.committing.proofs.clash.row_named.Statement.{statement}
+use Rattle.committing.proofs.clash.row_named.Tie as tie
+
+abbrev Inv-loop : tie.InvT-loop
+Inv-loop changes from to row any₀ p₀ any p = names (stretch (changeAt changes) from to) row ≡ any || names (stretch
+    (changeAt changes) p to) row
+
+abbrev μ-loop : tie.MeasureT-loop
+μ-loop changes from to row any₀ p₀ any p = to - p
+
+loop-holds : tie.Need-loop-holds Inv-loop μ-loop
+loop-holds c = refl
+
+mul-any : tie.Need-mul-any Inv-loop μ-loop
+mul-any c = omega arith
+
+shared-slice-read-any : tie.Need-shared-slice-read-any Inv-loop μ-loop
+shared-slice-read-any c = omega arith
+
+add-p : tie.Need-add-p Inv-loop μ-loop
+add-p c = omega arith
+
+loop-less : tie.Need-loop-less Inv-loop μ-loop
+loop-less c = omega arith
+
+loop-again : tie.Need-loop-again Inv-loop μ-loop
+loop-again c = search row-again
+
+returns : tie.Need-returns Inv-loop μ-loop
+returns c = search row-end
+
+pub row-named-spec : {M : Type 1} → statement M
+row-named-spec =
+    tie.close
+    (tie.spec
+    Inv-loop
+    μ-loop
+    loop-holds
+    mul-any
+    shared-slice-read-any
+    add-p
+    loop-less
+    loop-again
+    returns)

@@ -1,0 +1,15 @@
+-- `text::cells::short_known` meets its contract.
+-- Assumes nothing.
+use borrow.Author.Needs.{needs}
+use Rattle.text.proofs.ShortLaws.{known-is}
+use Rattle.text.proofs.cells.short_known.Statement.{statement}
+use Rattle.text.proofs.cells.short_known.Tie as tie
+
+is-digit-requires : tie.Need-is-digit-requires
+is-digit-requires c κs = search needs
+
+returns : tie.Need-returns
+returns c = search known-is
+
+pub short-known-spec : {M : Type 1} → statement M
+short-known-spec = tie.close (tie.spec is-digit-requires returns)
