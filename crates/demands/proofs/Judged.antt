@@ -2,8 +2,8 @@
 -- Assumes nothing.
 use mathlib.Core.Path.{_≡_, refl, _∙_}
 use mathlib.Core.Bool.{Bool, true, false, not, cond}
-use mathlib.Core.Option.{Option, none, some}
-use mathlib.Core.List.{[], _∷_}
+use mathlib.Core.Option.{Option, some}
+use mathlib.Core.List.{_∷_}
 use Prim.Native.Nat.{ℕ}
 use lib.Dec.{eqb}
 use Rattle.rules.specs.State.{session, startOf}
@@ -16,8 +16,8 @@ use Rattle.tables.specs.Meaning.{meaning}
 use Rattle.calls.specs.Said.{Said, no, numbers, value, words}
 use Rattle.calls.specs.Outcome.{Outcome, refusalAt, refusalOfCreate, unless}
 use Rattle.calls.specs.Calls.{own, beginning, createOf, beginOf, readOf, updateOf, deleteOf, insertOf, commitOf, tidyOf, abortOf}
-use Rattle.calls.specs.Query.{QueryOutcome, flipsSeen, asked, unlessAsked, queryOf}
-use Rattle.demands.specs.Asks.{Ask, create, begin, query, read, update, delete, insert, commit, tidy, abort, callOf, scratchOf, unlent, comesTo}
+use Rattle.calls.specs.Query.{flipsSeen, asked, queryOf}
+use Rattle.demands.specs.Asks.{Ask, create, begin, query, read, update, delete, insert, commit, tidy, abort, callOf, buffersOf, comesTo}
 use Rattle.demands.specs.Conditions.{noRoom, damaged, conditions}
 
 -- an answer that is a refusal's number
@@ -29,8 +29,8 @@ isNo (words n due place) = false
 
 -- what a call comes to: the number of the first condition that holds and nothing else, or its work, which answers no number
 pub record Judged (t : Tables) (a : Ask) : Type 0 where
-  pub work : QueryOutcome
-  pub is : comesTo t a ≡ unlessAsked (firstOf (conditions t a)) t (scratchOf a) work
+  pub work : Outcome
+  pub is : comesTo t a ≡ unless (firstOf (conditions t a)) t (buffersOf a) work
   pub accepts : isNo (work .answer) ≡ false
 
 -- the number of a call that judges damage
@@ -53,16 +53,10 @@ create-number t c = go (roomy t)
     go true = refl
     go false = refl
 
--- a refusal of a call that is lent no scratch
-unlent-unless : (t : Tables) (q : Option ℕ) (o : Outcome) → unlent (unless q t o) ≡ unlessAsked q t [] (unlent o)
-unfolding unless unlessAsked
-unlent-unless t none o = refl
-unlent-unless t (some n) o = refl
-
--- so such a call is judged as it must be
-settled : (t : Tables) (a : Ask) (q : Option ℕ) (o : Outcome) → scratchOf a ≡ [] → comesTo t a ≡ unlent (unless q t o) → q ≡ firstOf (conditions t a)
+-- a call that is refused by this number, and else comes to this
+settled : (t : Tables) (a : Ask) (q : Option ℕ) (o : Outcome) → comesTo t a ≡ unless q t (buffersOf a) o → q ≡ firstOf (conditions t a)
     → isNo (o .answer) ≡ false → Judged t a
-settled t a q o s e f p = record { work = unlent o; is = e ∙ (unlent-unless t q o ∙ rw (f, s)); accepts = p }
+settled t a q o e f p = record { work = o; is = e ∙ rw f; accepts = p }
 
 -- what holds of both arms
 pub either : {A : Type 0} (P : A → Type 0) (b : Bool) (x y : A) → P x → P y → P (cond b x y)
@@ -72,20 +66,17 @@ either P false x y p q = q
 -- every call is
 pub judged : (t : Tables) (a : Ask) → Judged t a
 unfolding createOf beginOf beginning readOf updateOf deleteOf insertOf commitOf tidyOf abortOf queryOf asked
-judged t (create C col) = settled t (create C col) _ _ refl refl (create-number t (callOf (create C col))) refl
+judged t (create C col) = settled t (create C col) _ _ refl (create-number t (callOf (create C col))) refl
 judged t (begin n) =
-    settled t (begin n) _ _ refl refl (number t (callOf (begin n)))
+    settled t (begin n) _ _ refl (number t (callOf (begin n)))
     (either (λ (o : Outcome). isNo (o .answer) ≡ false) (eqb (own t n .live) 1) _ _ refl refl)
 judged t (query scratch n v threshold) =
-    record {
-      work = asked t scratch (startOf (session (meaning t) n)) v threshold;
-      is = rw (number t (callOf (query scratch n v threshold)));
-      accepts = either (λ (o : QueryOutcome). isNo (o .answer) ≡ false) (eqb (flipsSeen t (startOf (session (meaning t) n)) v) 0) _ _ refl refl;
-    }
-judged t (read n r) = settled t (read n r) _ _ refl refl (number t (callOf (read n r))) refl
-judged t (update n r v) = settled t (update n r v) _ _ refl refl (number t (callOf (update n r v))) refl
-judged t (delete n r) = settled t (delete n r) _ _ refl refl (number t (callOf (delete n r))) refl
-judged t (insert n v) = settled t (insert n v) _ _ refl refl (number t (callOf (insert n v))) refl
-judged t (commit n) = settled t (commit n) _ _ refl refl (number t (callOf (commit n))) refl
-judged t (tidy n v) = settled t (tidy n v) _ _ refl refl (number t (callOf (tidy n v))) refl
-judged t (abort n) = settled t (abort n) _ _ refl refl (number t (callOf (abort n))) refl
+    settled t (query scratch n v threshold) _ _ refl (number t (callOf (query scratch n v threshold)))
+    (either (λ (o : Outcome). isNo (o .answer) ≡ false) (eqb (flipsSeen t (startOf (session (meaning t) n)) v) 0) _ _ refl refl)
+judged t (read n r) = settled t (read n r) _ _ refl (number t (callOf (read n r))) refl
+judged t (update n r v) = settled t (update n r v) _ _ refl (number t (callOf (update n r v))) refl
+judged t (delete n r) = settled t (delete n r) _ _ refl (number t (callOf (delete n r))) refl
+judged t (insert n v) = settled t (insert n v) _ _ refl (number t (callOf (insert n v))) refl
+judged t (commit n) = settled t (commit n) _ _ refl (number t (callOf (commit n))) refl
+judged t (tidy n v) = settled t (tidy n v) _ _ refl (number t (callOf (tidy n v))) refl
+judged t (abort n) = settled t (abort n) _ _ refl (number t (callOf (abort n))) refl

@@ -10,8 +10,8 @@ use native.Mathlib.Omega.{arith}
 use lib.ListN.{length}
 use Rattle.rules.specs.State.{State}
 use Rattle.rules.specs.Calls.{Call, create, begin, query, read, update, delete, insert, commit, tidy, abort}
-use Rattle.rules.specs.Refusals.{Test, firstOf, tests}
-use Rattle.rules.proofs.Tests.{AllFail, all-fail}
+use Rattle.rules.specs.Refusals.{Test, firstOf, tests, AllFail}
+use Rattle.rules.proofs.Tests.{all-fail}
 use Rattle.rules.proofs.Numbers.{smallest-number}
 use Rattle.tables.specs.Cells.{Tables}
 use Rattle.tables.specs.Meaning.{meaning}

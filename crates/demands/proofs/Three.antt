@@ -1,40 +1,52 @@
 -- DEMAND 3: every call of every run since an accepted create is right in the plain observer's words.
 -- Assumes nothing.
-use mathlib.Core.Path.{_≡_, sym, _∙_}
+use mathlib.Core.Path.{_≡_, refl, sym, _∙_}
 use mathlib.Core.Bool.{true, false}
+use mathlib.Core.Option.{Option, none, some}
 use mathlib.Core.List.{List, [], _∷_}
 use Prim.Native.Nat.{ℕ, _≤_}
 use native.Mathlib.Omega.{arith}
-use Rattle.rules.specs.Calls.{refused}
-use Rattle.rules.specs.Refusals.{badColumn, tests}
+use Rattle.rules.specs.Calls.{refused, ok}
+use Rattle.rules.specs.Calls as rules
+use Rattle.rules.specs.Refusals.{badColumn, tests, refusal}
+use Rattle.rules.specs.Step.{effect, unless, step}
 use Rattle.rules.specs.Plain.{Observer, started, watches, observes}
 use Rattle.rules.specs.Demand.{Right}
-use Rattle.rules.proofs.EveryRun.{right}
+use Rattle.rules.proofs.EveryRun.{right, tidy-moves}
 use Rattle.rules.proofs.Numbers.{refused-exactly}
 use Rattle.rules.proofs.Whole.{Whole, start-whole, step-whole}
 use Rattle.tables.specs.Cells.{Tables}
 use Rattle.tables.specs.Room.{roomy}
 use Rattle.tables.specs.Meaning.{meaning}
 use Rattle.calls.specs.Calls.{columnOf, createOf}
-use Rattle.follow.proofs.Good.{Good}
+use Rattle.follow.specs.Good.{Good}
 use Rattle.follow.proofs.Create.{create-creates}
-use Rattle.demands.specs.Asks.{Ask, query, read, commit, callOf, comesTo, told, tablesAfter, transcriptOf}
+use Rattle.demands.specs.Asks.{Ask, query, read, commit, tidy, callOf, comesTo, told, tablesAfter, transcriptOf}
 use Rattle.demands.specs.Demands.{RightAt}
 use Rattle.demands.proofs.Least.{first-from, from-three}
-use Rattle.demands.proofs.Steps.{steps}
+use Rattle.demands.proofs.Steps.{steps, tells}
 
 -- ---- one moment
 
 module _ (t : Tables) (o : Observer) (g : Good t) (w : Whole (meaning t) o) where
   -- whatever is asked next, the answer is right
   right-told : (a : Ask) → Right o (callOf a) (told t a)
-  right-told a = rw (steps t g a .same-answer) (right (meaning t) o (w .inv) (callOf a))
+  right-told a = rw (tells t g a) (right (meaning t) o (w .inv) (callOf a))
 
   -- a number that is given is one of the rules' own
   number-high : (a : Ask) (n : ℕ) → told t a ≡ refused n → 3 ≤ n
   number-high a n e =
       let c = callOf a in
-      first-from 3 (tests (meaning t) c) (from-three (meaning t) c) n (refused-exactly (meaning t) c n .0 (sym (steps t g a .same-answer) ∙ e))
+      first-from 3 (tests (meaning t) c) (from-three (meaning t) c) n (refused-exactly (meaning t) c n .0 (sym (tells t g a) ∙ e))
+
+  -- a tidy that answers numbers is accepted
+  tidy-accepted : (n v : ℕ) (ns : List ℕ) → told t (tidy n v) ≡ ok ns → refusal (meaning t) (rules.tidy n v) ≡ none
+  unfolding step
+  tidy-accepted n v ns e = go (refusal (meaning t) (rules.tidy n v)) (sym (tells t g (tidy n v)) ∙ e)
+    where
+      go : (q : Option ℕ) → unless (meaning t) q (effect (meaning t) (rules.tidy n v)) .1 ≡ ok ns → q ≡ none
+      go none h = refl
+      go (some k) h = absurd (let z : _≡_ {A = ℕ} 0 1 = cc in omega arith)
 
   -- each part
   right-at : RightAt t o
@@ -45,6 +57,7 @@ module _ (t : Tables) (o : Observer) (g : Good t) (w : Whole (meaning t) o) wher
         (y .since, y .own, y .is-open, y .exactly);
     reads = λ n r x e. let y = rw e at (right-told (read n r)) in (y .since, y .own, y .is-open, y .cell-is);
     conflicts = λ n since x ws e. right-told (commit n) .conflict since x ws e;
+    moves = λ n v ns e. tidy-moves (meaning t) o (w .inv) n v (tidy-accepted n v ns e);
     right = right-told;
     never = λ a. (λ e. omega (arith, number-high a _ e), λ e. omega (arith, number-high a _ e));
     stays-good = g;
@@ -52,7 +65,7 @@ module _ (t : Tables) (o : Observer) (g : Good t) (w : Whole (meaning t) o) wher
 
   -- the next moment
   next-whole : (a : Ask) → Whole (meaning (comesTo t a .after)) (watches o (callOf a) (told t a))
-  next-whole a = rw (steps t g a .same-state, steps t g a .same-answer) (step-whole (meaning t) o w (callOf a))
+  next-whole a = rw (steps t g a .same-state, tells t g a) (step-whole (meaning t) o w (callOf a))
 
 -- ---- any run
 

@@ -1,4 +1,4 @@
--- DEMAND 2: "A column turned into vectors reads back as that column."
+-- DEMAND 2: "Every call answers and writes exactly what 01 says. A column turned into vectors reads back as that column."
 -- Assumes nothing.
 use mathlib.Core.Path.{_≡_, _∙_}
 use mathlib.Core.Bool.{true, false}
@@ -14,11 +14,12 @@ use Rattle.tables.specs.Room.{roomy}
 use Rattle.tables.specs.Meaning.{meaning}
 use Rattle.calls.specs.Outcome.{refusalOfCreate, unless}
 use Rattle.calls.specs.Calls.{columnOf, createOf}
-use Rattle.follow.proofs.Good.{Good}
+use Rattle.follow.specs.Good.{Good}
+use Rattle.follow.specs.Follows.{Follows}
 use Rattle.follow.proofs.Create.{create-creates}
-use Rattle.demands.specs.Asks.{create, begin, query, read, told, tablesAfter}
-use Rattle.demands.specs.Demands.{ReadsBack}
-use Rattle.demands.proofs.Steps.{Steps, steps}
+use Rattle.demands.specs.Asks.{create, begin, query, read, callOf, comesTo, told, tablesAfter}
+use Rattle.demands.specs.Demands.{ReadsBack, DoesAsSaid}
+use Rattle.demands.proofs.Steps.{steps, tells}
 use Rattle.demands.proofs.Opened.{begun, begins, reads, lists}
 
 module _ (t : Tables) (room : roomy t ≡ true) (C : ℕ) (col : List ℕ) (good : badColumn C (columnOf col) ≡ false) (n : ℕ) (place : n < 16) where
@@ -40,7 +41,7 @@ module _ (t : Tables) (room : roomy t ≡ true) (C : ℕ) (col : List ℕ) (good
   fresh = create-creates t room C col .accepted good
 
   -- begin follows the rules
-  opening : Steps made (begin n)
+  opening : Follows made (callOf (begin n)) (comesTo made (begin n))
   opening = steps made (fresh .1) (begin n)
 
   -- and leaves the session open
@@ -51,15 +52,17 @@ module _ (t : Tables) (room : roomy t ≡ true) (C : ℕ) (col : List ℕ) (good
   reads-back : ReadsBack t C col n
   reads-back = record {
     creates = creates;
-    begins = opening .same-answer ∙ rw (fresh .0, begins C (columnOf col) good n place, length-map col valueOf);
+    means = fresh .0;
+    stays-good = fresh .1;
+    begins = tells made (fresh .1) (begin n) ∙ rw (fresh .0, begins C (columnOf col) good n place, length-map col valueOf);
     reads =
-        λ r l. steps seated (opening .stays-good) (read n r) .same-answer ∙ rw means (reads C (columnOf col) good n place r (rw (length-map col valueOf) l));
+        λ r l. tells seated (opening .stays-good) (read n r) ∙ rw means (reads C (columnOf col) good n place r (rw (length-map col valueOf) l));
     lists =
         λ scratch size v threshold low.
-        rw (steps seated (opening .stays-good) (query scratch n v threshold) .same-answer, means)
+        rw (tells seated (opening .stays-good) (query scratch n v threshold), means)
         (lists C (columnOf col) good n place v threshold (length scratch) low size);
   }
 
 -- THE SECOND DEMAND
-pub demand-2 : (t : Tables) → roomy t ≡ true → (C : ℕ) (col : List ℕ) → badColumn C (columnOf col) ≡ false → (n : ℕ) → n < 16 → ReadsBack t C col n
-demand-2 = reads-back
+pub demand-2 : (t : Tables) → roomy t ≡ true → DoesAsSaid t
+demand-2 t room = record { steps = steps t; reads-back = reads-back t room }

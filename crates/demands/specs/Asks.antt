@@ -8,9 +8,8 @@ use Rattle.rules.specs.Calls as rules
 use Rattle.tables.specs.Cells.{Tables}
 use Rattle.calls.specs.Outcome.{Outcome}
 use Rattle.calls.specs.Calls.{createOf, beginOf, readOf, updateOf, deleteOf, insertOf, commitOf, tidyOf, abortOf, columnOf}
-use Rattle.calls.specs.Query.{QueryOutcome, queryOutcome, queryOf}
-use Rattle.follow.proofs.Follows.{heardWith}
-use Rattle.follow.proofs.Query.{rowsPicked}
+use Rattle.calls.specs.Query.{queryOf}
+use Rattle.follow.specs.Heard.{heard}
 
 -- a call with its arguments: session, then row, then value, where it has them
 pub data Ask : Type 0 where
@@ -40,39 +39,35 @@ callOf (commit n) = rules.commit n
 callOf (tidy n v) = rules.tidy n v
 callOf (abort n) = rules.abort n
 
--- the scratch that is lent: only query has one
-abbrev pub scratchOf : Ask → List ℕ
-scratchOf (create C col) = []
-scratchOf (begin n) = []
-scratchOf (query scratch n v threshold) = scratch
-scratchOf (read n r) = []
-scratchOf (update n r v) = []
-scratchOf (delete n r) = []
-scratchOf (insert n v) = []
-scratchOf (commit n) = []
-scratchOf (tidy n v) = []
-scratchOf (abort n) = []
+-- what is lent beside the tables to be written: query's scratch
+abbrev pub buffersOf : Ask → List (List ℕ)
+buffersOf (create C col) = []
+buffersOf (begin n) = []
+buffersOf (query scratch n v threshold) = scratch ∷ []
+buffersOf (read n r) = []
+buffersOf (update n r v) = []
+buffersOf (delete n r) = []
+buffersOf (insert n v) = []
+buffersOf (commit n) = []
+buffersOf (tidy n v) = []
+buffersOf (abort n) = []
 
--- what a call comes to that is lent no scratch
-abbrev pub unlent : Outcome → QueryOutcome
-unlent o = queryOutcome (o .after) [] (o .answer)
-
--- what a call comes to: the tables afterwards, the scratch afterwards, and the answer
-abbrev pub comesTo : Tables → Ask → QueryOutcome
-comesTo t (create C col) = unlent (createOf t C col)
-comesTo t (begin n) = unlent (beginOf t n)
+-- what a call comes to: the tables afterwards, the buffers afterwards, and the answer
+abbrev pub comesTo : Tables → Ask → Outcome
+comesTo t (create C col) = createOf t C col
+comesTo t (begin n) = beginOf t n
 comesTo t (query scratch n v threshold) = queryOf t scratch n v threshold
-comesTo t (read n r) = unlent (readOf t n r)
-comesTo t (update n r v) = unlent (updateOf t n r v)
-comesTo t (delete n r) = unlent (deleteOf t n r)
-comesTo t (insert n v) = unlent (insertOf t n v)
-comesTo t (commit n) = unlent (commitOf t n)
-comesTo t (tidy n v) = unlent (tidyOf t n v)
-comesTo t (abort n) = unlent (abortOf t n)
+comesTo t (read n r) = readOf t n r
+comesTo t (update n r v) = updateOf t n r v
+comesTo t (delete n r) = deleteOf t n r
+comesTo t (insert n v) = insertOf t n v
+comesTo t (commit n) = commitOf t n
+comesTo t (tidy n v) = tidyOf t n v
+comesTo t (abort n) = abortOf t n
 
 -- what the caller is told: the answer, of a query with the rows of the words that the picker then returns
 abbrev pub told : Tables → Ask → Answer
-told t a = let o = comesTo t a in heardWith (rowsPicked (o .after) o) (o .answer)
+told t a = heard (comesTo t a)
 
 -- a run of calls, each on the tables that the one before it left: the tables at its end
 abbrev pub tablesAfter : Tables → List Ask → Tables

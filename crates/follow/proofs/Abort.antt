@@ -14,14 +14,16 @@ use Rattle.tables.proofs.Stores.{freed-means}
 use Rattle.calls.specs.Said.{numbers}
 use Rattle.calls.specs.Outcome.{outcome}
 use Rattle.calls.specs.Calls.{own, reseated, abortOf}
-use Rattle.follow.proofs.Good.{Good, good-freed}
-use Rattle.follow.proofs.Follows.{Follows, follows}
+use Rattle.follow.specs.Good.{Good}
+use Rattle.follow.proofs.Good.{good-freed}
+use Rattle.follow.specs.Follows.{Follows}
+use Rattle.follow.proofs.Follows.{follows}
 use Rattle.follow.proofs.Seated.{open-seat, seated-means}
 
 pub abort-follows : (t : Tables) → Good t → (n : ℕ) → Follows t (abort n) (abortOf t n)
 unfolding abortOf tests effect
 abort-follows t g n =
-    follows t g (abort n) (outcome (reseated t n freed) (numbers (own t n .count ∷ [])))
+    follows t g (abort n) [] (outcome (reseated t n freed) [] (numbers (own t n .count ∷ [])))
     (λ a. let o = open-seat t n g (a .fail .0) (a .fail .1 .0) in
     record {
       same-state = seated-means t n (o .place) g freed ∙ ap (seated (meaning t) n) freed-means;

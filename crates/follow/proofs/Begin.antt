@@ -26,8 +26,10 @@ use Rattle.tables.proofs.Stores.{begun-means}
 use Rattle.calls.specs.Said.{numbers}
 use Rattle.calls.specs.Outcome.{outcome}
 use Rattle.calls.specs.Calls.{own, reseated, beginning, beginOf}
-use Rattle.follow.proofs.Good.{Good, Wide, good-parts, good-seated}
-use Rattle.follow.proofs.Follows.{Follows, Meets, meets-by, follows}
+use Rattle.follow.specs.Good.{Good, Wide}
+use Rattle.follow.proofs.Good.{good-parts, good-seated}
+use Rattle.follow.specs.Follows.{Follows}
+use Rattle.follow.proofs.Follows.{Meets, meets-by, follows}
 use Rattle.follow.proofs.Seated.{place-low, session-is, seated-means}
 
 -- the session that begin opens
@@ -63,14 +65,14 @@ module _ (t : Tables) (g : Good t) (n : ℕ) where
   again : n < 16 → x .live ≡ 1 → Meets t (begin n) (beginning t n x)
   unfolding effect beginning
   again l v =
-      meets-by t (begin n) (beginning t n x) (outcome t (numbers (x .start .0 ∷ x .rows .0 ∷ []))) (meaning t) (ok (x .start .0 ∷ x .rows .0 ∷ []))
+      meets-by t (begin n) (beginning t n x) (outcome t [] (numbers (x .start .0 ∷ x .rows .0 ∷ []))) (meaning t) (ok (x .start .0 ∷ x .rows .0 ∷ []))
       (rw (eq-eqb (x .live) 1 v)) (ap (rules.beginning (meaning t) n) (session-is t n l ∙ open-means x v)) refl refl g
 
   -- a free one is opened
   anew : n < 16 → (x .live ≡ 1 → ⊥) → Meets t (begin n) (beginning t n x)
   unfolding effect beginning
   anew l v =
-      meets-by t (begin n) (beginning t n x) (outcome (reseated t n (new t)) (numbers (stampIn (t .clock) ∷ rowsIn (t .clock) ∷ [])))
+      meets-by t (begin n) (beginning t n x) (outcome (reseated t n (new t)) [] (numbers (stampIn (t .clock) ∷ rowsIn (t .clock) ∷ [])))
       (seated (meaning t) n (opened (stampOf (meaning t .log)) (meaning t .rows) [])) (ok (stampOf (meaning t .log) ∷ meaning t .rows ∷ []))
       (rw (ne-eqb (x .live) 1 v)) (ap (rules.beginning (meaning t) n) (session-is t n l ∙ free-means x v))
       (seated-means t n l g (new t) ∙ ap (seated (meaning t) n) (new-means t)) (rw (stamp-means t, rows-means t)) (good-seated t n (new t) g (new-wide t) (inr (new-fits t g)))
@@ -78,5 +80,5 @@ module _ (t : Tables) (g : Good t) (n : ℕ) where
   pub begin-follows : Follows t (begin n) (beginOf t n)
   unfolding beginOf tests
   begin-follows =
-      follows t g (begin n) (beginning t n x)
+      follows t g (begin n) [] (beginning t n x)
       (λ a. let l = place-low n (a .fail .0) in ⊎-elim (again l) (anew l) (eq-cases (x .live) 1))

@@ -12,11 +12,10 @@ use Rattle.rules.specs.Limits.{maxRows, maxRecords, maxChanges}
 use Rattle.rules.specs.State.{State}
 use Rattle.rules.specs.Commit.{newSet, commitChanges}
 use Rattle.rules.specs.Calls.{commit}
-use Rattle.rules.specs.Refusals.{tests}
+use Rattle.rules.specs.Refusals.{tests, AllFail}
 use Rattle.rules.specs.Step.{commitRecord, effect}
 use Rattle.rules.specs.Step as rules
-use Rattle.rules.specs.Damage.{ChangesFit, Undamaged}
-use Rattle.rules.proofs.Tests.{AllFail}
+use Rattle.rules.proofs.Invariant.{ChangesFit, Undamaged}
 use Rattle.rules.proofs.Fits.{length-made}
 use Rattle.tables.specs.declared.session.Session.{Session}
 use Rattle.tables.specs.Cells.{Tables, valuesIn, firstIn, stampIn, slotsIn, changesIn}
@@ -31,8 +30,10 @@ use Rattle.calls.specs.Said.{numbers}
 use Rattle.calls.specs.Stores.{stores}
 use Rattle.calls.specs.Outcome.{outcome}
 use Rattle.calls.specs.Calls.{own, commitRows, commitStores, commitOf}
-use Rattle.follow.proofs.Good.{Good, good-room, good-parts, sessions-set, all-wide-set, freed-wide}
-use Rattle.follow.proofs.Follows.{Follows, follows}
+use Rattle.follow.specs.Good.{Good}
+use Rattle.follow.proofs.Good.{good-room, good-parts, sessions-set, all-wide-set, freed-wide}
+use Rattle.follow.specs.Follows.{Follows}
+use Rattle.follow.proofs.Follows.{follows}
 use Rattle.follow.proofs.Seated.{Open, open-seat}
 use Rattle.follow.proofs.CallStores.{committedChanges, commitEnd, commitClock, committed, commit-stores}
 use Rattle.follow.proofs.NewChanges.{length-changes}
@@ -153,7 +154,7 @@ module _ (t : Tables) (g : Good t) (n : ℕ) (f : Fits t n) where
 pub commit-follows : (t : Tables) → Good t → (n : ℕ) → Follows t (commit n) (commitOf t n)
 unfolding commitOf effect
 commit-follows t g n =
-    follows t g (commit n) (outcome (stores t (commitStores t n)) (numbers ((stampIn (t .clock) + 1) ∷ commitRows t n ∷ [])))
+    follows t g (commit n) [] (outcome (stores t (commitStores t n)) [] (numbers ((stampIn (t .clock) + 1) ∷ commitRows t n ∷ [])))
     (λ a. let f = fits t n g (a .fail) in
     let o = f .open-own in
     record {

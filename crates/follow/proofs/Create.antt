@@ -31,8 +31,9 @@ use Rattle.lent.specs.Places.{length-freed-all, freed-all-at}
 use Rattle.calls.specs.Said.{numbers}
 use Rattle.calls.specs.Outcome.{Outcome, outcome, refusalOfCreate, unless}
 use Rattle.calls.specs.Calls.{below, createdTables, columnOf, createOf}
-use Rattle.follow.proofs.Good.{Good}
-use Rattle.follow.proofs.Follows.{heard, Follows}
+use Rattle.follow.specs.Good.{Good}
+use Rattle.follow.specs.Follows.{Follows}
+use Rattle.follow.specs.Heard.{heard}
 use Rattle.follow.proofs.Fresh.{Fresh, past-absent, fresh-means, fresh-good}
 
 -- ---- the cells that create leaves
@@ -139,7 +140,7 @@ module _ (t : Tables) (room : Room t) (c : ℕ) (col : List ℕ) where
 -- rules and good tables, and where it is not, the tables as they were
 pub record Creates (t : Tables) (c : ℕ) (col : List ℕ) (o : Outcome) : Type 0 where
   pub same-state : meaning (o .after) ≡ step (meaning t) (create c (columnOf col)) .0
-  pub same-answer : heard (o .answer) ≡ step (meaning t) (create c (columnOf col)) .1
+  pub same-answer : heard o ≡ step (meaning t) (create c (columnOf col)) .1
   pub accepted : badColumn c (columnOf col) ≡ false → (meaning (o .after) ≡ created c (columnOf col)) × Good (o .after)
   pub refused : badColumn c (columnOf col) ≡ true → o .after ≡ t
 
@@ -148,9 +149,9 @@ unfolding createOf refusalOfCreate unless step tests effect
 create-creates t r c col = rw r (go (badColumn c (columnOf col)) refl)
   where
     o : Outcome
-    o = outcome (createdTables t c col) (numbers (length col ∷ []))
+    o = outcome (createdTables t c col) [] (numbers (length col ∷ []))
 
-    go : (b : Bool) → badColumn c (columnOf col) ≡ b → Creates t c col (unless (cond b (some 3) none) t o)
+    go : (b : Bool) → badColumn c (columnOf col) ≡ b → Creates t c col (unless (cond b (some 3) none) t [] o)
     go false e =
         let m = made t (room-facts t r) c col e in
         record {

@@ -24,7 +24,8 @@ use Rattle.tables.proofs.Slots.{slots-made, heads-made, vectors-made}
 use Rattle.tables.proofs.Sessions.{sessions-made, session-made, freed-zero}
 use Rattle.tables.proofs.Chains.{chain-end}
 use Rattle.tables.proofs.Stores.{freed-means}
-use Rattle.follow.proofs.Good.{Good, freed-wide}
+use Rattle.follow.specs.Good.{Good}
+use Rattle.follow.proofs.Good.{freed-wide}
 
 -- "slots 0 to C-1 with stamp 0, one per value, no links; stamp 0; all sessions free"
 pub record Fresh (t : Tables) (C : ℕ) (col : Column) : Type 0 where

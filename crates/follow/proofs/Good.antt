@@ -1,4 +1,4 @@
--- Tables that no call refuses by 1 or 2, with cells as their types have them, and what keeps them so when one session is stored.
+-- What good tables have, and what keeps them good when one session is stored.
 -- Assumes nothing.
 use mathlib.Core.Path.{_≡_}
 use mathlib.Core.Bool.{true}
@@ -11,25 +11,10 @@ use Rattle.bits.specs.Cases.{eq-cases, lt-cases}
 use Rattle.tables.specs.declared.session.Session.{Session}
 use Rattle.tables.specs.Cells.{Tables, tables, valuesIn, firstIn, stampIn}
 use Rattle.tables.specs.Sessions.{freed, sessionAt}
-use Rattle.tables.specs.Room.{roomy}
-use Rattle.tables.specs.Damage.{sound, sessionFits, sessionsFit}
+use Rattle.tables.specs.Damage.{sessionFits, sessionsFit}
 use Rattle.tables.proofs.Facts.{Room, room-facts, room-made, Parts, parts, whole}
 use Rattle.tables.proofs.Sessions.{Typed, ZeroFacts, OpenFacts, each-session, sessions-made, session-made, freed-zero}
-
--- the two arrays of a session have 32 cells, as its type says
-pub record Wide (x : Session) : Type 0 where
-  pub at-wide : length (x .at) ≡ 32
-  pub to-wide : length (x .to) ≡ 32
-
--- and those of each of the sixteen sessions
-abbrev pub AllWide : List Session → Type 0
-AllWide sessions = (i : ℕ) → i < 16 → Wide (sessionAt sessions i)
-
--- room, no damage, and sessions as their type has them
-pub record Good (t : Tables) : Type 0 where
-  pub room : roomy t ≡ true
-  pub whole : sound t ≡ true
-  pub wide : AllWide (t .sessions)
+use Rattle.follow.specs.Good.{Wide, AllWide, Good}
 
 -- the facts that come with them
 module _ (t : Tables) (g : Good t) where

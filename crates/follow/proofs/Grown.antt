@@ -9,7 +9,7 @@ use lib.ListN.{length}
 use Rattle.bits.specs.Tab.{tab}
 use Rattle.rules.specs.State.{Change, Record, Log}
 use Rattle.rules.specs.Log.{grown}
-use Rattle.rules.specs.Damage.{ChangesFit, LogFits}
+use Rattle.rules.proofs.Invariant.{ChangesFit, LogFits}
 use Rattle.tables.specs.Cells.{valuesIn, stampIn, changesIn}
 use Rattle.tables.specs.Stretch.{stretch}
 use Rattle.tables.specs.Meaning.{changeAt, kindOf, recordAt}

@@ -18,8 +18,9 @@ use Rattle.tables.specs.Meaning.{entries, meaning}
 use Rattle.tables.proofs.Means.{length-entries}
 use Rattle.tables.proofs.Fits.{entry-add}
 use Rattle.calls.specs.Calls.{own, listedAt, relisted, insertOf}
-use Rattle.follow.proofs.Good.{Good}
-use Rattle.follow.proofs.Follows.{Follows, Meets, follows}
+use Rattle.follow.specs.Good.{Good}
+use Rattle.follow.specs.Follows.{Follows}
+use Rattle.follow.proofs.Follows.{Meets, follows}
 use Rattle.follow.proofs.Seated.{value-low, Open, open-seat}
 use Rattle.follow.proofs.Listed.{entries-past, listed-fits}
 use Rattle.follow.proofs.Relisted.{relisted-meets}
@@ -40,5 +41,5 @@ module _ (t : Tables) (g : Good t) (n v : ℕ) where
   pub insert-follows : Follows t (insert n v) (insertOf t n v)
   unfolding insertOf tests
   insert-follows =
-      follows t g (insert n v) (relisted t n (listedAt (own t n) (own t n .count) 65535 v))
+      follows t g (insert n v) [] (relisted t n (listedAt (own t n) (own t n .count) 65535 v))
       (λ a. let f = a .fail in accepted (open-seat t n g (f .0) (f .1 .0)) (value-low t v (f .1 .1 .0)) (f .1 .1 .1 .0))

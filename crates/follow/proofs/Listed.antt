@@ -27,7 +27,7 @@ use Rattle.tables.proofs.Sessions.{EntryCases, OpenFacts}
 use Rattle.tables.proofs.Fits.{entry-add, entry-alter}
 use Rattle.tables.proofs.Means.{length-entries}
 use Rattle.calls.specs.Calls.{orPlace, spotOf, listedAt}
-use Rattle.follow.proofs.Good.{Wide}
+use Rattle.follow.specs.Good.{Wide}
 
 -- ---- one entry set, at a place of the list or at the one after its last
 

@@ -10,7 +10,7 @@ use native.Mathlib.Numerals.{add-one}
 use native.Mathlib.Omega.{arith}
 use lib.ListN.{length}
 use Rattle.rules.specs.State.{Change}
-use Rattle.rules.specs.Damage.{ChangesFit}
+use Rattle.rules.proofs.Invariant.{ChangesFit}
 use Rattle.tables.specs.declared.session.Session.{Session}
 use Rattle.tables.specs.Cells.{valuesIn, firstIn, stampIn, rowsIn, changesIn, rowsAt, endAt}
 use Rattle.tables.specs.Sessions.{sessionAt}

@@ -1,9 +1,9 @@
 -- Query follows the rules: the tables stay, and the words that the picker returns show exactly the rules' rows.
 -- Assumes nothing.
-use mathlib.Core.Path.{_≡_, refl, sym, ap, _∙_}
+use mathlib.Core.Path.{_≡_, sym, ap, _∙_}
 use mathlib.Core.Bool.{Bool, false, cond}
-use mathlib.Core.Option.{Option, none, some}
-use mathlib.Core.List.{List, []}
+use mathlib.Core.Option.{none, some}
+use mathlib.Core.List.{List, [], _∷_}
 use mathlib.Core.Logic.{_⊎_, inl, inr}
 use Prim.Native.Nat.{ℕ, zero-le, _+_, _*_, _≤_, _<_}
 use native.Mathlib.Omega.{arith}
@@ -21,9 +21,9 @@ use Rattle.bits.specs.Words.{bitAt}
 use Rattle.rules.specs.Limits.{maxRows, vectorWords}
 use Rattle.rules.specs.State.{session, startOf, chain}
 use Rattle.rules.specs.Versions.{versionAt, flipped, queried, queriedRows}
-use Rattle.rules.specs.Calls.{Call, query, listed}
-use Rattle.rules.specs.Refusals.{tests, refusal}
-use Rattle.rules.specs.Step.{querying, effect, step}
+use Rattle.rules.specs.Calls.{query, listed}
+use Rattle.rules.specs.Refusals.{tests}
+use Rattle.rules.specs.Step.{querying, effect}
 use Rattle.rules.proofs.Small.{xorb-false}
 use Rattle.tables.specs.Cells.{Tables, valuesIn, slotWords}
 use Rattle.tables.specs.Meaning.{meaning}
@@ -33,21 +33,13 @@ use Rattle.tables.proofs.Tests.{and-both}
 use Rattle.history.specs.Version.{slotSeen}
 use Rattle.history.proofs.Meets.{seen-used, vector-meets}
 use Rattle.calls.specs.Said.{words}
-use Rattle.calls.specs.Query.{QueryOutcome, rowsSeen, flipsSeen, asked, unlessAsked, queryOf, pickedFrom}
-use Rattle.follow.proofs.Good.{Good, good-room, good-parts}
-use Rattle.follow.proofs.Follows.{heardWith, refusal-is, accepted}
+use Rattle.calls.specs.Query.{rowsSeen, flipsSeen, asked, queryOf, pickedFrom}
+use Rattle.follow.specs.Good.{Good}
+use Rattle.follow.proofs.Good.{good-room, good-parts}
+use Rattle.follow.specs.Heard.{heard}
+use Rattle.follow.specs.Follows.{Follows}
+use Rattle.follow.proofs.Follows.{follows}
 use Rattle.follow.proofs.Seated.{value-low}
-
--- the rows of the words that the picker returns afterwards
-abbrev pub rowsPicked : Tables → QueryOutcome → Option ℕ → List ℕ
-rowsPicked t o place = rowsOf (pickedFrom (t .words) (o .scratch) place)
-
--- the tables stay as they were; the rules' answer has the flip count, whether a tidy is due, and the rows of the words picked
-pub record QueryFollows (t : Tables) (c : Call) (o : QueryOutcome) : Type 0 where
-  pub same-tables : o .after ≡ t
-  pub same-state : meaning (o .after) ≡ step (meaning t) c .0
-  pub same-answer : heardWith (rowsPicked t o) (o .answer) ≡ step (meaning t) c .1
-  pub stays-good : Good (o .after)
 
 -- ---- the words picked
 
@@ -93,12 +85,12 @@ module _ (t : Tables) (g : Good t) (s v : ℕ) (below : v < valuesIn (t .clock))
 
   -- what is asked is answered
   answered : (threshold : ℕ) → 32 ≤ length scratch
-      → heardWith (rowsPicked t (asked t scratch s v threshold)) (asked t scratch s v threshold .answer) ≡ querying (meaning t) s v threshold
+      → heard (asked t scratch s v threshold) ≡ querying (meaning t) s v threshold
   unfolding asked
   answered threshold room = go (eq-cases (flipsSeen t s v) 0)
     where
       go : (flipsSeen t s v ≡ 0) ⊎ (flipsSeen t s v ≡ 0 → ⊥)
-          → heardWith (rowsPicked t (asked t scratch s v threshold)) (asked t scratch s v threshold .answer) ≡ querying (meaning t) s v threshold
+          → heard (asked t scratch s v threshold) ≡ querying (meaning t) s v threshold
       go (inl z) =
           rw (eq-eqb (flipsSeen t s v) 0 z) (ap (listed 0 false) (own-rows z) ∙ rw (z, le-ltb threshold 0 zero-le))
       go (inr d) = rw (ne-eqb (flipsSeen t s v) 0 d) (ap (listed (flipsSeen t s v) (ltb threshold (flipsSeen t s v))) (turned-rows room))
@@ -119,25 +111,15 @@ unfolding vectorWords
 room-for n e = ltb-false n 32 e
 
 pub query-follows : (t : Tables) → Good t → (scratch : List ℕ) (n v threshold : ℕ)
-    → QueryFollows t (query n v threshold (length scratch)) (queryOf t scratch n v threshold)
-unfolding queryOf unlessAsked step effect tests
-query-follows t g scratch n v threshold = rw (refusal-is t g c) (go (refusal (meaning t) c) refl)
-  where
-    c : Call
-    c = query n v threshold (length scratch)
-
-    s : ℕ
-    s = startOf (session (meaning t) n)
-
-    go : (q : Option ℕ) → refusal (meaning t) c ≡ q → QueryFollows t c (unlessAsked q t scratch (asked t scratch s v threshold))
-    go none e =
-        let f = accepted t g c e .fail in
-        let below = value-low t v (f .1 .1 .0) in
-        let after = same t g s v below scratch threshold in
-        record {
-          same-tables = after;
-          same-state = ap meaning after ∙ rw e;
-          same-answer = answered t g s v below scratch threshold (room-for (length scratch) (f .1 .1 .1 .0)) ∙ rw e;
-          stays-good = rw after g;
-        }
-    go (some k) e = record { same-tables = refl; same-state = rw e; same-answer = rw e; stays-good = g }
+    → Follows t (query n v threshold (length scratch)) (queryOf t scratch n v threshold)
+unfolding queryOf tests effect
+query-follows t g scratch n v threshold =
+    let s = startOf (session (meaning t) n) in
+    follows t g (query n v threshold (length scratch)) (scratch ∷ []) (asked t scratch s v threshold)
+    (λ a. let below = value-low t v (a .fail .1 .1 .0) in
+    let after = same t g s v below scratch threshold in
+    record {
+      same-state = ap meaning after;
+      same-answer = answered t g s v below scratch threshold (room-for (length scratch) (a .fail .1 .1 .1 .0));
+      stays-good = rw after g;
+    })

@@ -23,7 +23,8 @@ use Rattle.tables.specs.Meaning.{targetOf, entries, meaning}
 use Rattle.tables.proofs.Sessions.{OpenFacts, open-rows-few}
 use Rattle.tables.proofs.Means.{open-means, length-entries}
 use Rattle.calls.specs.Calls.{own, spotOf, listedAt, relisted}
-use Rattle.follow.proofs.Good.{Good, good-parts, good-seated}
+use Rattle.follow.specs.Good.{Good}
+use Rattle.follow.proofs.Good.{good-parts, good-seated}
 use Rattle.follow.proofs.Follows.{Meets, meets-by}
 use Rattle.follow.proofs.Seated.{Open, seated-means}
 use Rattle.follow.proofs.Listed.{listed-wide, listed-fits, spot-of, entries-put, spot-low, spot-alone}

@@ -17,7 +17,8 @@ use Rattle.tables.proofs.Means.{values-means, session-means, open-means, live-m
 use Rattle.tables.proofs.Stores.{session-put}
 use Rattle.lent.specs.Places.{seatAt}
 use Rattle.calls.specs.Calls.{own, reseated}
-use Rattle.follow.proofs.Good.{Good, Wide, good-room, good-parts}
+use Rattle.follow.specs.Good.{Good, Wide}
+use Rattle.follow.proofs.Good.{good-room, good-parts}
 
 -- 4 fails: the number is one of the sixteen places
 pub place-low : (n : ℕ) → leb maxSessions n ≡ false → n < 16

@@ -19,11 +19,10 @@ use Rattle.rules.specs.State.{Log, Chain, Version, chain}
 use Rattle.rules.specs.Versions.{queried}
 use Rattle.rules.specs.Tidy.{moved, tidyChange, tidyChanges}
 use Rattle.rules.specs.Calls.{tidy}
-use Rattle.rules.specs.Refusals.{tests}
+use Rattle.rules.specs.Refusals.{tests, AllFail}
 use Rattle.rules.specs.Step.{tidyRecord, tidyVersion, effect}
 use Rattle.rules.specs.Step as rules
-use Rattle.rules.specs.Damage.{ChangesFit, Undamaged}
-use Rattle.rules.proofs.Tests.{AllFail}
+use Rattle.rules.proofs.Invariant.{ChangesFit, Undamaged}
 use Rattle.rules.proofs.Fits.{queried-beyond}
 use Rattle.tables.specs.Cells.{Tables, valuesIn, firstIn, stampIn, rowsIn, slotsIn, changesIn, slotStamp, slotWords, headOf, rowsAt}
 use Rattle.tables.specs.Meaning.{meaning, chainAt}
@@ -35,8 +34,10 @@ use Rattle.calls.specs.Said.{numbers}
 use Rattle.calls.specs.Stores.{stores}
 use Rattle.calls.specs.Outcome.{outcome}
 use Rattle.calls.specs.Calls.{own, tidyStores, tidyOf}
-use Rattle.follow.proofs.Good.{Good, good-room, good-parts}
-use Rattle.follow.proofs.Follows.{Follows, follows}
+use Rattle.follow.specs.Good.{Good}
+use Rattle.follow.proofs.Good.{good-room, good-parts}
+use Rattle.follow.specs.Follows.{Follows}
+use Rattle.follow.proofs.Follows.{follows}
 use Rattle.follow.proofs.Seated.{value-low, Open, open-seat}
 use Rattle.follow.proofs.CallStores.{tidiedChanges, tidyEnd, tidyClock, tidySlots, tidyVector, tidyWords, tidied, tidy-stores}
 use Rattle.follow.proofs.NewChanges.{length-changes}
@@ -196,7 +197,8 @@ pub tidy-follows : (t : Tables) → Good t → (n v : ℕ) → Follows t (tidy n
 unfolding tidyOf tests effect
 tidy-follows t g n v =
     let s = own t n .start .0 in
-    follows t g (tidy n v) (outcome (stores t (tidyStores t s v)) (numbers ((stampIn (t .clock) + 1) ∷ length (moved (meaning t .log) s v) ∷ [])))
+    follows t g (tidy n v) []
+    (outcome (stores t (tidyStores t s v)) [] (numbers ((stampIn (t .clock) + 1) ∷ length (moved (meaning t .log) s v) ∷ [])))
     (λ a. let o = open-seat t n g (a .fail .0) (a .fail .1 .0) in
     let f = fits t n v g o (a .fail) in
     record {

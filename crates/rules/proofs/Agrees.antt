@@ -16,7 +16,7 @@ use Rattle.rules.specs.Log.{stampOf, grown, flipSet}
 use Rattle.rules.specs.Versions.{newest, versionAt, flipped, queried, flipCount}
 use Rattle.rules.specs.Tidy.{moves, moved}
 use Rattle.rules.specs.Calls.{Column, cell, holds}
-use Rattle.rules.specs.Plain.{Event, replay, tidies, lastTidy, holding, changedRows}
+use Rattle.rules.specs.Plain.{Event, replay, isTidyOf, lastTidy, holding, changedRows}
 use Rattle.rules.proofs.Small.{length-snoc, take-snoc, up-to-next, xorb-false}
 use Rattle.rules.proofs.LogLaws.{flipSet-old, flipped-is}
 use Rattle.rules.proofs.VersionLaws.{version-newest, version-older, version-before, version-again}
@@ -106,7 +106,7 @@ module _ (log : Log) (ch : Chain) (v : ℕ) (col : Column) (h : List Event) (a :
 
     -- the versions then: what they have to bring
     module _ (ch′ : Chain) (head : newest ch′ .stamp ≤ suc (length h)) (older : (k : ℕ) → k ≤ length h → versionAt ch′ k ≡ versionAt ch k)
-        (place : newest ch′ .stamp ≡ cond (tidies v e) (suc (length h)) (lastTidy v h))
+        (place : newest ch′ .stamp ≡ cond (isTidyOf v e) (suc (length h)) (lastTidy v h))
         (free : (r : ℕ) → bit (flipSet (grown log x) (newest ch′ .stamp) r) v ≡ false)
         (made : (r : ℕ) → xorb (newest ch′ .vector r) (bit (flipSet (grown log x) (suc (stampOf log)) r) v) ≡ holds (cell (replay (replay col h) (e ∷ [])) r) v) where
       -- a fact at every k up to the new event: at those before, and at the new one
@@ -151,7 +151,7 @@ module _ (log : Log) (ch : Chain) (v : ℕ) (col : Column) (h : List Event) (a :
           }
 
     -- the value keeps its versions: its flips turn as the column does
-    pub agrees-kept : tidies v e ≡ false
+    pub agrees-kept : isTidyOf v e ≡ false
         → ((r : ℕ) → bit (flipSet (grown log x) (suc (stampOf log)) r) v
         ≡ xorb (bit (flipSet log (stampOf log) r) v) (xorb (holds (cell (replay col h) r) v) (holds (cell (replay (replay col h) (e ∷ [])) r) v)))
         → Agrees (grown log x) ch v col (h ++ (e ∷ []))
@@ -164,7 +164,7 @@ module _ (log : Log) (ch : Chain) (v : ℕ) (col : Column) (h : List Event) (a :
         (λ r. rw (turns r, ← (right-now p r)) (turned (newest ch .vector r) (bit (flipSet log (stampOf log) r) v) (holds (cell (replay (replay col h) (e ∷ [])) r) v)))
 
     -- the value gets a new version: it is the column, and no flip set has the value
-    pub agrees-renewed : (f : ℕ → Bool) → tidies v e ≡ true
+    pub agrees-renewed : (f : ℕ → Bool) → isTidyOf v e ≡ true
         → ((r : ℕ) → bit (flipSet (grown log x) (suc (stampOf log)) r) v ≡ false)
         → ((r : ℕ) → f r ≡ holds (cell (replay (replay col h) (e ∷ [])) r) v)
         → Agrees (grown log x) (record { stamp = suc (stampOf log); vector = f } ∷ ch) v col (h ++ (e ∷ []))

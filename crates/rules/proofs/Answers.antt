@@ -22,7 +22,7 @@ use Rattle.rules.specs.Tidy.{moved}
 use Rattle.rules.specs.Calls.{Column, cell, holds}
 use Rattle.rules.specs.Refusals.{isEmpty}
 use Rattle.rules.specs.Step.{beginning, querying}
-use Rattle.rules.specs.Plain.{Wish, hold, grow, wished, wishes, Seat, away, sitting, wishesOf, Observer, seat, columnAt, holding}
+use Rattle.rules.specs.Plain.{Wish, hold, grow, isWished, countWished, Visitor, away, sitting, wishesOf, Observer, visitor, columnAt, holding}
 use Rattle.rules.specs.Demand.{Numbers, RightQuery, Reads, beginsAt, Overtaken, tidiesAt}
 use Rattle.rules.proofs.Small.{clash}
 use Rattle.rules.proofs.PlainLaws.{touched, touched-means}
@@ -51,13 +51,13 @@ holding-exactly col v r =
     low (inr l) e = absurd (Option·none-ne-some v (sym (List·getD-eq-default col none l) ∙ e))
 
 module _ (st : State) (o : Observer) (inv : Inv st o) where
-  -- a session and its seat now
-  abbrev SitsNow : Session → Seat → Type 0
+  -- a session and its visitor now
+  abbrev SitsNow : Session → Visitor → Type 0
   SitsNow = Sits (st .values) (o .column) (o .events)
 
   -- ---- query and read
 
-  pub query-lists : (i v t : ℕ) (x : Session) (y : Seat) → SitsNow x y → seat o i ≡ y → isFree x ≡ false → v < st .values → RightQuery o i v t (querying st (startOf x) v t)
+  pub query-lists : (i v t : ℕ) (x : Session) (y : Visitor) → SitsNow x y → visitor o i ≡ y → isFree x ≡ false → v < st .values → RightQuery o i v t (querying st (startOf x) v t)
   query-lists i v t free y q e b l = absurd (true≢false b)
   query-lists i v t (opened s n es) away q e b l = absurd q
   query-lists i v t (opened s n es) (sitting k ws) q e b l =
@@ -81,7 +81,7 @@ module _ (st : State) (o : Observer) (inv : Inv st o) where
       rows : queriedRows (st .log) (chain (st .chains) v) s v ≡ holding (columnAt o s) v
       rows = queried-rows (st .log) (chain (st .chains) v) v (o .column) (o .events) a s (q .old) fit
 
-  pub read-reads : (i r : ℕ) (x : Session) (y : Seat) → SitsNow x y → seat o i ≡ y → isFree x ≡ false → r < rowsOf x
+  pub read-reads : (i r : ℕ) (x : Session) (y : Visitor) → SitsNow x y → visitor o i ≡ y → isFree x ≡ false → r < rowsOf x
       → Reads o i r (readAt (st .values) (st .log) (st .chains) (startOf x) r)
   read-reads i r free y q e b l = absurd (true≢false b)
   read-reads i r (opened s n es) away q e b l = absurd q
@@ -96,13 +96,13 @@ module _ (st : State) (o : Observer) (inv : Inv st o) where
 
   -- ---- the calls that answer numbers
 
-  pub begin-numbers : (i : ℕ) (x : Session) (y : Seat) → SitsNow x y → Numbers (beginsAt o y) (beginning st i x .1)
+  pub begin-numbers : (i : ℕ) (x : Session) (y : Visitor) → SitsNow x y → Numbers (beginsAt o y) (beginning st i x .1)
   begin-numbers i free away q = ap₂ (λ (a b : ℕ). a ∷ b ∷ []) (inv .core .logged .pace) (inv .core .logged .rows-now)
   begin-numbers i free (sitting k ws) q = absurd q
   begin-numbers i (opened s n es) away q = absurd q
   begin-numbers i (opened s n es) (sitting k ws) q = rw (q .at) (ap (λ (m : ℕ). s ∷ m ∷ []) (q .count))
 
-  pub tidy-numbers : (v : ℕ) (x : Session) (y : Seat) → SitsNow x y → isFree x ≡ false → v < st .values
+  pub tidy-numbers : (v : ℕ) (x : Session) (y : Visitor) → SitsNow x y → isFree x ≡ false → v < st .values
       → suc (stampOf (st .log)) ∷ length (moved (st .log) (startOf x) v) ∷ [] ≡ tidiesAt o v y
   tidy-numbers v free y q b l = absurd (true≢false b)
   tidy-numbers v (opened s n es) away q b l = absurd q
@@ -110,19 +110,19 @@ module _ (st : State) (o : Observer) (inv : Inv st o) where
       rw (q .at) (ap₂ (λ (a b : ℕ). a ∷ b ∷ []) (ap suc (inv .core .logged .pace)) (ap length (moved-is st o inv s v (q .old) l)))
 
   -- a session wishes for as many rows as it lists
-  sits-count : (x : Session) (y : Seat) → SitsNow x y → length (listOf x) ≡ wishes (wishesOf y)
+  sits-count : (x : Session) (y : Visitor) → SitsNow x y → length (listOf x) ≡ countWished (wishesOf y)
   sits-count free away q = refl
   sits-count free (sitting k ws) q = absurd q
   sits-count (opened s n es) away q = absurd q
   sits-count (opened s n es) (sitting k ws) q = sym (q .same .count)
 
-  pub list-count : (i : ℕ) → length (listOf (session st i)) ≡ wishes (wishesOf (seat o i))
-  list-count i = sits-count (session st i) (seat o i) (inv .sat i)
+  pub list-count : (i : ℕ) → length (listOf (session st i)) ≡ countWished (wishesOf (visitor o i))
+  list-count i = sits-count (session st i) (visitor o i) (inv .sat i)
 
   -- ---- conflict
 
-  -- the session behind a seat
-  pub behind : (k : ℕ) (ws : List Wish) (x : Session) (y : Seat) → SitsNow x y → y ≡ sitting k ws
+  -- the session behind a visitor
+  pub behind : (k : ℕ) (ws : List Wish) (x : Session) (y : Visitor) → SitsNow x y → y ≡ sitting k ws
       → (s : ℕ) × (n : ℕ) × (es : List Entry) × (x ≡ opened s n es) × Seated (st .values) (o .column) (o .events) s n es k ws
   behind k ws free away q e = absurd (let z : _≡_ {A = ℕ} 0 1 = cc in omega arith)
   behind k ws free (sitting m us) q e = absurd q
@@ -162,5 +162,5 @@ module _ (st : State) (o : Observer) (inv : Inv st o) where
   -- something wished for is something listed
   pub not-empty : (es : List Entry) (w : Wish) (ws : List Wish) → Same es (w ∷ ws) → isEmpty es ≡ false
   not-empty (e ∷ es) w ws q = refl
-  not-empty [] (hold r t) ws q = absurd (clash {b = wished (hold r t ∷ ws) r} (rw (eq-eqb r r refl)) (same-lists [] (hold r t ∷ ws) q r))
+  not-empty [] (hold r t) ws q = absurd (clash {b = isWished (hold r t ∷ ws) r} (rw (eq-eqb r r refl)) (same-lists [] (hold r t ∷ ws) q r))
   not-empty [] (grow v) ws q = let z : _≡_ {A = ℕ} 0 1 = cc (q .adds) in absurd (omega arith)

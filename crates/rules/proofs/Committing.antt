@@ -20,9 +20,9 @@ use Rattle.rules.specs.Log.{stampOf, above, grown, changesOf, lastNaming
 use Rattle.rules.specs.Versions.{readAt}
 use Rattle.rules.specs.Lists.{target, lists, inserts, standing}
 use Rattle.rules.specs.Commit.{toggled, newSet, rowChanges, insertChanges, conflicts}
-use Rattle.rules.specs.Damage.{Within, EntriesFit, Once}
+use Rattle.rules.proofs.Invariant.{Within, EntriesFit, Once}
 use Rattle.rules.specs.Calls.{Column, cell, holds}
-use Rattle.rules.specs.Plain.{Wish, Event, committed, rewritten, newRows, met, wished, replay}
+use Rattle.rules.specs.Plain.{Wish, Event, committed, rewritten, newRows, met, isWished, replay}
 use Rattle.rules.proofs.Small.{clash, xorb-false, turn-none}
 use Rattle.rules.proofs.Changes.{lastNaming-append, names-append, not-named, none-named}
 use Rattle.rules.proofs.LogLaws.{flipSet-new, flipSet-kept}
@@ -150,7 +150,7 @@ module _ (C : ℕ) (col : Column) (rows : ℕ) (log : Log) (h : List Event) (c :
       go (inl l) = low (target es r) refl (sym (low-cell r l) ∙ e)
       go (inr l) = fits-added C rows es (r - rows) a fits (sym (high-cell r l) ∙ e)
 
-  commit-seen : (r : ℕ) → r < rows → names (commitOf g rows es .changes) r ≡ wished ws r
+  commit-seen : (r : ℕ) → r < rows → names (commitOf g rows es .changes) r ≡ isWished ws r
   commit-seen r l =
       rw (
         names-append (rowChanges g es) (insertChanges rows (inserts es)) r,

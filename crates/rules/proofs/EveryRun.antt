@@ -3,27 +3,33 @@
 use mathlib.Core.Path.{_≡_, refl, sym, ap, ap₂, _∙_}
 use mathlib.Core.Bool.{Bool, true, false, cond, false≢true}
 use mathlib.Core.Option.{Option, none, some}
-use mathlib.Core.List.{List, [], _∷_, map, map-map, map-id}
-use mathlib.Core.Logic.{_↔_}
-use Prim.Native.Nat.{ℕ, suc, _+_, _<_}
+use mathlib.Core.List.{List, [], _∷_, map-map, map-id, List·Memᴰ}
+use mathlib.Core.Logic.{_⊎_, inl, inr, _↔_}
+use Prim.Native.Nat.{ℕ, suc, _+_, _≤_, _<_}
 use native.Mathlib.Omega.{arith}
 use borrow.Author.Tests.{leb-false}
 use lib.Dec.{leb, ltb}
 use lib.ListN.{length, drop}
 use lib.Seq.{getD-set-same}
+use Rattle.bits.specs.Cases.{lt-cases}
+use Rattle.bits.specs.Rows.{rows-mem, mem-rows}
 use Rattle.rules.specs.Limits.{maxRows, maxSessions, maxRecords, maxChanges}
-use Rattle.rules.specs.State.{Change, Entry, Session, free, opened, State, session, isFree, startOf, rowsOf, listOf}
-use Rattle.rules.specs.Log.{stampOf, grown, allChanges}
+use Rattle.rules.specs.State.{Change, Entry, Session, free, opened, State, chain, session, isFree, startOf, rowsOf, listOf}
+use Rattle.rules.specs.Log.{stampOf, allChanges}
 use Rattle.rules.specs.Lists.{inserts}
 use Rattle.rules.specs.Commit.{conflicts}
-use Rattle.rules.specs.Tidy.{moved, tidyChange, tidyChanges}
+use Rattle.rules.specs.Tidy.{moves, moved, tidyChange, tidyChanges}
 use Rattle.rules.specs.Calls.{Column, Call, create, begin, query, read, update, delete, insert, commit, tidy, abort, Answer, refused, ok}
-use Rattle.rules.specs.Refusals.{isEmpty, badColumn, tests, refusal}
-use Rattle.rules.specs.Step.{created, relisted, tidyRecord, effect, unless, step, transcript}
-use Rattle.rules.specs.Plain.{Wish, wishes, sitting, wishesOf, Observer, seat, movedBy, columnNow, started, accepts, watches}
+use Rattle.rules.specs.Refusals.{isEmpty, badColumn, tests, refusal, AllFail}
+use Rattle.rules.specs.Step.{created, relisted, effect, unless, step, transcript}
+use Rattle.rules.specs.Plain.{Wish, countWished, Visitor, away, sitting, wishesOf, Observer, visitor, movedBy, columnAt, columnNow, started, accepts, watches}
 use Rattle.rules.specs.Demand.{Numbers, Overtaken, Right, AllRight}
-use Rattle.rules.proofs.Tests.{AllFail, all-fail}
-use Rattle.rules.proofs.Run.{Inv, start-inv, moved-is, accepted, step-keeps}
+use Rattle.rules.specs.Moved.{MovesRows}
+use Rattle.rules.proofs.Small.{clash}
+use Rattle.rules.proofs.Logged.{columns-fit}
+use Rattle.rules.proofs.Agrees.{moves-none}
+use Rattle.rules.proofs.Tests.{all-fail}
+use Rattle.rules.proofs.Run.{Sits, Inv, start-inv, moved-is, accepted, step-keeps}
 use Rattle.rules.proofs.Answers.{query-lists, read-reads, begin-numbers, tidy-numbers, list-count, behind, open-low, conflict-plain, not-empty}
 
 -- ---- the refusals of a commit that has something listed: 12 where there is a conflict, and no other gives 12
@@ -52,7 +58,7 @@ module _ (st : State) (o : Observer) (inv : Inv st o) where
 
   -- a changed list's length is what the session then wishes for
   relisted-count : (i : ℕ) (es : List Entry) (p : Observer) → leb maxSessions i ≡ false → Inv (relisted st i (session st i) es .0) p
-      → length es ∷ [] ≡ wishes (wishesOf (seat p i)) ∷ []
+      → length es ∷ [] ≡ countWished (wishesOf (visitor p i)) ∷ []
   relisted-count i es p b q =
       let l : i < length (st .sessions) = omega (arith, leb-false maxSessions i b, inv .sessions-are) in
       let x : Session = opened (startOf (session st i)) (rowsOf (session st i)) es in
@@ -74,9 +80,9 @@ module _ (st : State) (o : Observer) (inv : Inv st o) where
       (ltb maxChanges (length (allChanges (st .log)) + length (listOf x))) _ _)
 
   -- and that is what the observer sees
-  commit-conflict : (i k : ℕ) (w : Wish) (ws : List Wish) → seat o i ≡ sitting k (w ∷ ws) → (step st (commit i) .1 ≡ refused 12) ↔ Overtaken (drop k (o .events)) (w ∷ ws)
+  commit-conflict : (i k : ℕ) (w : Wish) (ws : List Wish) → visitor o i ≡ sitting k (w ∷ ws) → (step st (commit i) .1 ≡ refused 12) ↔ Overtaken (drop k (o .events)) (w ∷ ws)
   commit-conflict i k w ws e =
-      let p = behind st o inv k (w ∷ ws) (session st i) (seat o i) (inv .sat i) e in
+      let p = behind st o inv k (w ∷ ws) (session st i) (visitor o i) (inv .sat i) e in
       let b : isFree (session st i) ≡ false = rw (p .3) in
       let c : isEmpty (listOf (session st i)) ≡ false = rw (p .3) (not-empty st o inv (p .2) w ws (p .4 .same)) in
       let a = rw (p .3) at (commit-answer i (open-low st o inv i b) b c) in
@@ -87,13 +93,13 @@ module _ (st : State) (o : Observer) (inv : Inv st o) where
   pub right : (c : Call) → Right o c (step st c .1)
   unfolding tests effect watches
   right (create C col) = judged (create C col) (Right o (create C col)) (λ n. tt) (λ p. refl)
-  right (begin i) = judged (begin i) (Right o (begin i)) (λ n. tt) (λ p. begin-numbers st o inv i (session st i) (seat o i) (inv .sat i))
+  right (begin i) = judged (begin i) (Right o (begin i)) (λ n. tt) (λ p. begin-numbers st o inv i (session st i) (visitor o i) (inv .sat i))
   right (query i v t n) =
       judged (query i v t n) (Right o (query i v t n)) (λ m. tt)
-      (λ p. query-lists st o inv i v t (session st i) (seat o i) (inv .sat i) refl (p .1 .0) (leb-false _ _ (p .1 .1 .0)))
+      (λ p. query-lists st o inv i v t (session st i) (visitor o i) (inv .sat i) refl (p .1 .0) (leb-false _ _ (p .1 .1 .0)))
   right (read i r) =
       judged (read i r) (Right o (read i r)) (λ n. tt)
-      (λ p. read-reads st o inv i r (session st i) (seat o i) (inv .sat i) refl (p .1 .0) (leb-false _ _ (p .1 .1 .0)))
+      (λ p. read-reads st o inv i r (session st i) (visitor o i) (inv .sat i) refl (p .1 .0) (leb-false _ _ (p .1 .1 .0)))
   right (update i r v) =
       judged (update i r v) (Right o (update i r v)) (λ n. tt) (λ p. relisted-count i _ (accepts o (update i r v)) (p .0) (accepted st o inv (update i r v) p))
   right (delete i r) =
@@ -103,21 +109,50 @@ module _ (st : State) (o : Observer) (inv : Inv st o) where
   right (commit i) = record { numbers = judged (commit i) (Numbers _) (λ n. tt) (commit-numbers i); conflict = commit-conflict i }
   right (tidy i v) =
       judged (tidy i v) (Right o (tidy i v)) (λ n. tt)
-      (λ p. tidy-numbers st o inv v (session st i) (seat o i) (inv .sat i) (p .1 .0) (leb-false _ _ (p .1 .1 .0)))
+      (λ p. tidy-numbers st o inv v (session st i) (visitor o i) (inv .sat i) (p .1 .0) (leb-false _ _ (p .1 .1 .0)))
   right (abort i) = judged (abort i) (Right o (abort i)) (λ n. tt) (λ p. ap (λ (n : ℕ). n ∷ []) (list-count st o inv i))
 
-  -- an accepted tidy makes a record whose rows are those that the observer says it moves
-  pub tidy-record : (i v k : ℕ) (ws : List Wish) → seat o i ≡ sitting k ws → refusal st (tidy i v) ≡ none
-      → (step st (tidy i v) .0 .log ≡ grown (st .log) (tidyRecord st k v)) × (map (λ (c : Change). c .row) (tidyRecord st k v .changes) ≡ movedBy o k v)
+  -- ---- what an accepted tidy moves
+
+  -- a row that moves is one of the limit's
+  moves-low : (k v r : ℕ) → k ≤ length (o .events) → v < st .values → moves (st .log) k v r ≡ true → r < maxRows
+  moves-low k v r l w e = go (lt-cases r (length (columnAt o k)))
+    where
+      go : (r < length (columnAt o k)) ⊎ (length (columnAt o k) ≤ r) → r < maxRows
+      go (inl m) = omega (arith, columns-fit (st .values) (o .column) (st .rows) (st .log) (o .events) (inv .core .logged) k)
+      go (inr m) =
+          absurd (clash e (moves-none (st .log) (chain (st .chains) v) v (o .column) (o .events) (inv .core .agrees v w) k r l m))
+
+  -- the rows that the observer says move are those whose set has v
+  moved-exactly : (k v : ℕ) → k ≤ length (o .events) → v < st .values
+      → (r : ℕ) → List·Memᴰ r (movedBy o k v) ↔ (moves (st .log) k v r ≡ true)
+  unfolding moved
+  moved-exactly k v l w r =
+      rw (← (moved-is st o inv k v l w))
+      (λ m. rows-mem (moves (st .log) k v) maxRows r m .1, λ e. mem-rows (moves (st .log) k v) maxRows r (moves-low k v r l w e) e)
+
+  moves-seated : (i v : ℕ) (x : Session) (y : Visitor) → Sits (st .values) (o .column) (o .events) x y → session st i ≡ x → visitor o i ≡ y
+      → refusal st (tidy i v) ≡ none → MovesRows st o i v
   unfolding step tests effect tidyChanges
-  tidy-record i v k ws e q =
-      let p = all-fail (tests st (tidy i v)) q in
-      let b = behind st o inv k ws (session st i) (seat o i) (inv .sat i) e in
-      let s : startOf (session st i) ≡ k = rw (b .3) (sym (b .4 .at)) in (
-        rw (q, s),
-        (map-map (λ (c : Change). c .row) (tidyChange (st .log) k v) (moved (st .log) k v) ∙ map-id (moved (st .log) k v))
-            ∙ moved-is st o inv k v (rw (b .4 .at) (b .4 .old)) (leb-false (st .values) v (p .1 .1 .0)),
-      )
+  moves-seated i v free y q e f h = absurd (clash (ap isFree e) (all-fail (tests st (tidy i v)) h .1 .0))
+  moves-seated i v (opened s n es) away q e f h = absurd q
+  moves-seated i v (opened s n es) (sitting k ws) q e f h =
+      let w : v < st .values = leb-false (st .values) v (all-fail (tests st (tidy i v)) h .1 .1 .0) in
+      record {
+        since = s;
+        own = ws;
+        is-open = f ∙ ap (λ (m : ℕ). sitting m ws) (q .at);
+        start-is = ap startOf e;
+        exactly = moved-exactly s v (q .old) w;
+        record-is = rw (h, e);
+        record-rows =
+            map-map (λ (c : Change). c .row) (tidyChange (st .log) s v) (moved (st .log) s v) ∙ map-id (moved (st .log) s v)
+            ∙ moved-is st o inv s v (q .old) w;
+      }
+
+  -- they are document 01's, and those of the record that is written
+  pub tidy-moves : (i v : ℕ) → refusal st (tidy i v) ≡ none → MovesRows st o i v
+  tidy-moves i v h = moves-seated i v (session st i) (visitor o i) (inv .sat i) refl refl h
 
 all-right : (cs : List Call) (st : State) (o : Observer) → Inv st o → AllRight o (transcript st cs)
 unfolding transcript

@@ -18,7 +18,7 @@ use Rattle.rules.specs.Log.{stampOf, upTo, between, grown, changesOf, al
 use Rattle.rules.specs.Versions.{versionAt, flipped, queried}
 use Rattle.rules.specs.Lists.{inserts}
 use Rattle.rules.specs.Commit.{toggled, rowChanges, insertChanges}
-use Rattle.rules.specs.Damage.{ChangesFit, LogFits, Falls, VectorsFit, Within, EntriesFit, SessionFits}
+use Rattle.rules.proofs.Invariant.{ChangesFit, LogFits, Falls, VectorsFit, Within, EntriesFit, SessionFits}
 use Rattle.rules.proofs.LogLaws.{stamp-grown, rowsAt-old}
 
 -- ---- the empty log

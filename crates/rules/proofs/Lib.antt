@@ -1,4 +1,5 @@
 pub mod Small
+pub mod Invariant
 pub mod Changes
 pub mod LogLaws
 pub mod VersionLaws

@@ -12,7 +12,7 @@ use lib.ListN.{length}
 use Rattle.bits.specs.Cases.{eq-cases}
 use Rattle.rules.specs.State.{Entry, alter, add}
 use Rattle.rules.specs.Lists.{target, lists, put, inserts}
-use Rattle.rules.specs.Damage.{Within, EntriesFit, Once}
+use Rattle.rules.proofs.Invariant.{Within, EntriesFit, Once}
 
 -- whether there is an answer
 abbrev pub isGiven : {A : Type 0} → Option A → Bool

@@ -13,7 +13,7 @@ use Rattle.bits.specs.Choice.{orElse}
 use Rattle.rules.specs.State.{Record, Log, Chain}
 use Rattle.rules.specs.Log.{stampOf, upTo, above, between, grown, changesOf, allChanges, lastNaming, orEmpty, flipSet, rowsAt}
 use Rattle.rules.specs.Versions.{versionAt, flipped}
-use Rattle.rules.specs.Damage.{ChangesFit, LogFits}
+use Rattle.rules.proofs.Invariant.{ChangesFit, LogFits}
 use Rattle.rules.proofs.Small.{length-snoc, take-snoc, drop-snoc}
 use Rattle.rules.proofs.Changes.{lastNaming-append, changesOf-append, changesOf-snoc}
 

@@ -9,16 +9,9 @@ use Prim.Native.Nat.{ℕ, _≤_, _<_}
 use native.Mathlib.Omega.{arith}
 use Rattle.rules.specs.State.{State, Session, free, opened, session}
 use Rattle.rules.specs.Calls.{Call, create, begin, query, read, update, delete, insert, commit, tidy, abort, Answer, refused, ok, value, listed}
-use Rattle.rules.specs.Refusals.{Test, firstOf, tests, refusal}
+use Rattle.rules.specs.Refusals.{Test, firstOf, First, tests, refusal, AllFail}
 use Rattle.rules.specs.Step.{beginning, effect, unless, step}
-use Rattle.rules.proofs.Tests.{AllFail, all-fail, fail-all}
-
--- a test that holds, with the number n: those before it in the table fail
-pub record First (ts : List Test) (n : ℕ) : Type 0 where
-  pub before : List Test
-  pub after : List Test
-  pub split : ts ≡ before ++ ((true, n) ∷ after)
-  pub fail : AllFail before
+use Rattle.rules.proofs.Tests.{all-fail, fail-all}
 
 -- no number is given exactly if every test fails
 pub given : (ts : List Test) → (firstOf ts ≡ none) ↔ AllFail ts

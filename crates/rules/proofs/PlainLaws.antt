@@ -13,7 +13,7 @@ use lib.ListN.{length, take, drop, set, length-append, length-set, take-append-d
 use lib.Seq.{take-append-le, take-length, take-take, getD-set-other}
 use Rattle.bits.specs.Cases.{bool-cases}
 use Rattle.rules.specs.Calls.{Column, cell}
-use Rattle.rules.specs.Plain.{Wish, hold, grow, rewritten, newRows, met, wished, Event, committed, tidied, replay, tidies, lastFrom, lastTidy, touches}
+use Rattle.rules.specs.Plain.{Wish, hold, grow, rewritten, newRows, met, isWished, Event, committed, tidied, replay, isTidyOf, lastFrom, lastTidy, touches}
 use Rattle.rules.proofs.Small.{or-parts, take-snoc}
 
 -- the column after the commits among the first k events
@@ -36,17 +36,17 @@ column-new col h e = rw (take-snoc h e) (replay-append col h (e ∷ []))
 pub column-now : (col : Column) (h : List Event) → columnAfter col h (length h) ≡ replay col h
 column-now col h = rw take-length
 
-lastFrom-snoc : (v n f : ℕ) (h : List Event) (e : Event) → lastFrom v n f (h ++ (e ∷ [])) ≡ cond (tidies v e) (suc (n + length h)) (lastFrom v n f h)
+lastFrom-snoc : (v n f : ℕ) (h : List Event) (e : Event) → lastFrom v n f (h ++ (e ∷ [])) ≡ cond (isTidyOf v e) (suc (n + length h)) (lastFrom v n f h)
 lastFrom-snoc v n f [] e = let q : n + 0 ≡ n = omega arith in rw q
 lastFrom-snoc v n f (x ∷ h) e =
     let q : suc n + length h ≡ n + suc (length h) = omega arith in
-    lastFrom-snoc v (suc n) (cond (tidies v x) (suc n) f) h e
-    ∙ ap (λ (k : ℕ). cond (tidies v e) (suc k) (lastFrom v (suc n) (cond (tidies v x) (suc n) f) h)) q
+    lastFrom-snoc v (suc n) (cond (isTidyOf v x) (suc n) f) h e
+    ∙ ap (λ (k : ℕ). cond (isTidyOf v e) (suc k) (lastFrom v (suc n) (cond (isTidyOf v x) (suc n) f) h)) q
 
-pub lastTidy-snoc : (v : ℕ) (h : List Event) (e : Event) → lastTidy v (h ++ (e ∷ [])) ≡ cond (tidies v e) (suc (length h)) (lastTidy v h)
+pub lastTidy-snoc : (v : ℕ) (h : List Event) (e : Event) → lastTidy v (h ++ (e ∷ [])) ≡ cond (isTidyOf v e) (suc (length h)) (lastTidy v h)
 lastTidy-snoc v h e =
     let q : 0 + length h ≡ length h = omega arith in
-    lastFrom-snoc v 0 0 h e ∙ ap (λ (k : ℕ). cond (tidies v e) (suc k) (lastTidy v h)) q
+    lastFrom-snoc v 0 0 h e ∙ ap (λ (k : ℕ). cond (isTidyOf v e) (suc k) (lastTidy v h)) q
 
 -- ---- a column never gets shorter
 
@@ -99,10 +99,10 @@ touched-means (x ∷ h) r = (to (bool-cases (touches x r)) (touched-means h r .0
     from p (inr m) ih = rw (ih (p .0, m, p .2)) (or-true (touches x r))
 
 -- a row that no wish is for is as it was
-pub unwished-cell : (col : Column) (ws : List Wish) (r : ℕ) → wished ws r ≡ false → cell (rewritten col ws) r ≡ cell col r
+pub unwished-cell : (col : Column) (ws : List Wish) (r : ℕ) → isWished ws r ≡ false → cell (rewritten col ws) r ≡ cell col r
 unwished-cell col [] r e = refl
 unwished-cell col (hold q t ∷ ws) r e =
-    let p = or-parts (eqb q r) (wished ws r) e in
+    let p = or-parts (eqb q r) (isWished ws r) e in
     unwished-cell (set col q t) ws r (p .1) ∙ getD-set-other col q r t none (λ x. eqb-false q r (p .0) (sym x))
 unwished-cell col (grow v ∷ ws) r e = unwished-cell col ws r e
 
@@ -113,6 +113,6 @@ met-low col ws r l = List·getD-append (rewritten col ws) (newRows ws) none r (r
 pub untouched-cell : (col : Column) (h : List Event) (r : ℕ) → r < length col → touched h r ≡ false → cell (replay col h) r ≡ cell col r
 untouched-cell col [] r l e = refl
 untouched-cell col (committed ws ∷ h) r l e =
-    let p = or-parts (wished ws r) (touched h r) e in
+    let p = or-parts (isWished ws r) (touched h r) e in
     untouched-cell (met col ws) h r (omega (arith, length-met col ws)) (p .1) ∙ (met-low col ws r l ∙ unwished-cell col ws r (p .0))
 untouched-cell col (tidied v rs ∷ h) r l e = untouched-cell col h r l (or-parts (touches (tidied v rs) r) (touched h r) e .1)

@@ -13,11 +13,11 @@ use Rattle.rules.specs.State.{Entry, add, Session, free, opened, State, 
 use Rattle.rules.specs.Lists.{lists, put, inserts}
 use Rattle.rules.specs.Commit.{conflicts, commitChanges}
 use Rattle.rules.specs.Tidy.{moved, stale}
-use Rattle.rules.specs.Damage.{Within, EntriesFit, Once}
+use Rattle.rules.proofs.Invariant.{Within, EntriesFit, Once}
 use Rattle.rules.specs.Calls.{Column, Call, create, begin, query, read, update, delete, insert, commit, tidy, abort}
-use Rattle.rules.specs.Refusals.{isFull, badColumn, tests, refusal}
+use Rattle.rules.specs.Refusals.{isFull, badColumn, tests, refusal, AllFail}
 use Rattle.rules.specs.Step.{created, seated, beginning, relisted, committing, tidying, effect, unless, step, run, transcript}
-use Rattle.rules.specs.Plain.{Wish, hold, grow, Event, committed, tidied, Seat, away, sitting, Observer, seat, movedBy, sits, sitsDown, wishing, commitsNow, tidiesNow, started, accepts, watches, observes}
+use Rattle.rules.specs.Plain.{Wish, hold, grow, Event, committed, tidied, Visitor, away, sitting, Observer, visitor, movedBy, sits, sitsDown, wishing, commitsNow, tidiesNow, started, accepts, watches, observes}
 use Rattle.rules.proofs.Small.{length-snoc}
 use Rattle.rules.proofs.PlainLaws.{columnAfter, column-old, column-now}
 use Rattle.rules.proofs.ListLaws.{length-put, once-put, fits-put, once-insert, fits-insert}
@@ -27,7 +27,7 @@ use Rattle.rules.proofs.Agrees.{moved-rows}
 use Rattle.rules.proofs.Core.{Core}
 use Rattle.rules.proofs.Committing.{commit-keeps}
 use Rattle.rules.proofs.Tidying.{tidy-keeps}
-use Rattle.rules.proofs.Tests.{AllFail, all-fail}
+use Rattle.rules.proofs.Tests.{all-fail}
 use Rattle.rules.proofs.Start.{start-core}
 
 -- an open session, and what the observer has of it
@@ -40,8 +40,8 @@ pub record Seated (C : ℕ) (col : Column) (h : List Event) (s n : ℕ) (es : Li
   pub short : length es ≤ maxEntries
   pub same : Same es ws
 
--- a session and its seat
-abbrev pub Sits : ℕ → Column → List Event → Session → Seat → Type 0
+-- a session and its visitor
+abbrev pub Sits : ℕ → Column → List Event → Session → Visitor → Type 0
 Sits C col h free away = Unit {0}
 Sits C col h free (sitting k ws) = ⊥
 Sits C col h (opened s n es) away = ⊥
@@ -51,12 +51,12 @@ Sits C col h (opened s n es) (sitting k ws) = Seated C col h s n es k ws
 pub record Inv (st : State) (o : Observer) : Type 0 where
   pub core : Core (st .values) (o .column) (st .rows) (st .log) (st .chains) (o .events)
   pub sessions-are : length (st .sessions) ≡ maxSessions
-  pub seats-are : length (o .seats) ≡ maxSessions
-  pub sat : (i : ℕ) → Sits (st .values) (o .column) (o .events) (session st i) (seat o i)
+  pub visitors-are : length (o .visitors) ≡ maxSessions
+  pub sat : (i : ℕ) → Sits (st .values) (o .column) (o .events) (session st i) (visitor o i)
 
 -- ---- accepted: each test failed
 
--- ---- sessions and seats
+-- ---- sessions and visitors
 
 -- two lists changed at one place
 pair-set : {A B : Type 0} (R : A → B → Type 0) (d : A) (d′ : B) (l : List A) (m : List B) → length l ≡ length m
@@ -76,7 +76,7 @@ same-everywhere (suc n) d zero = refl
 same-everywhere (suc n) d (suc i) = same-everywhere n d i
 
 -- one more event leaves a session's start as it was
-sits-on : (C : ℕ) (col : Column) (h : List Event) (e : Event) (x : Session) (y : Seat) → Sits C col h x y → Sits C col (h ++ (e ∷ [])) x y
+sits-on : (C : ℕ) (col : Column) (h : List Event) (e : Event) (x : Session) (y : Visitor) → Sits C col h x y → Sits C col (h ++ (e ∷ [])) x y
 sits-on C col h e free away q = tt
 sits-on C col h e free (sitting k ws) q = absurd q
 sits-on C col h e (opened s n es) away q = absurd q
@@ -109,28 +109,28 @@ start-inv C col good =
     record {
       core = start-core C col good;
       sessions-are = length-replicate 16 free;
-      seats-are = length-replicate 16 away;
+      visitors-are = length-replicate 16 away;
       sat = λ i. rw (same-everywhere 16 free i, same-everywhere 16 away i) tt;
     }
 
 -- ---- one call
 
 module _ (st : State) (o : Observer) (inv : Inv st o) where
-  -- a session and its seat now
-  abbrev SitsNow : Session → Seat → Type 0
+  -- a session and its visitor now
+  abbrev SitsNow : Session → Visitor → Type 0
   SitsNow = Sits (st .values) (o .column) (o .events)
 
   -- one session changed
-  reseat : (i : ℕ) (x : Session) (y : Seat) → SitsNow x y → Inv (seated st i x) (sits o i y)
+  reseat : (i : ℕ) (x : Session) (y : Visitor) → SitsNow x y → Inv (seated st i x) (sits o i y)
   reseat i x y q =
       record {
         core = inv .core;
         sessions-are = length-set (st .sessions) i x ∙ inv .sessions-are;
-        seats-are = length-set (o .seats) i y ∙ inv .seats-are;
-        sat = pair-set SitsNow free away (st .sessions) (o .seats) (inv .sessions-are ∙ sym (inv .seats-are)) (inv .sat) i x y q;
+        visitors-are = length-set (o .visitors) i y ∙ inv .visitors-are;
+        sat = pair-set SitsNow free away (st .sessions) (o .visitors) (inv .sessions-are ∙ sym (inv .visitors-are)) (inv .sat) i x y q;
       }
 
-  begin-inv : (i : ℕ) (x : Session) (y : Seat) → SitsNow x y → Inv (beginning st i x .0) (sitsDown o i y)
+  begin-inv : (i : ℕ) (x : Session) (y : Visitor) → SitsNow x y → Inv (beginning st i x .0) (sitsDown o i y)
   begin-inv i free away q =
       reseat i _ _
       record {
@@ -147,7 +147,7 @@ module _ (st : State) (o : Observer) (inv : Inv st o) where
   begin-inv i (opened s n es) (sitting k ws) q = inv
 
   -- a row's change put into the list, and the wish for it
-  put-inv : (i r : ℕ) (t : Option ℕ) (x : Session) (y : Seat) → SitsNow x y → isFree x ≡ false → r < rowsOf x → Within (st .values) t
+  put-inv : (i r : ℕ) (t : Option ℕ) (x : Session) (y : Visitor) → SitsNow x y → isFree x ≡ false → r < rowsOf x → Within (st .values) t
       → (isFull (listOf x) && not (lists (listOf x) r)) ≡ false → Inv (relisted st i x (put (listOf x) r t) .0) (wishing o i (hold r t) y)
   put-inv i r t free y q b l w f = absurd (true≢false b)
   put-inv i r t (opened s n es) away q b l w f = absurd q
@@ -164,7 +164,7 @@ module _ (st : State) (o : Observer) (inv : Inv st o) where
       }
 
   -- one more insert, and the wish for it
-  insert-inv : (i v : ℕ) (x : Session) (y : Seat) → SitsNow x y → isFree x ≡ false → v < st .values → isFull (listOf x) ≡ false
+  insert-inv : (i v : ℕ) (x : Session) (y : Visitor) → SitsNow x y → isFree x ≡ false → v < st .values → isFull (listOf x) ≡ false
       → Inv (relisted st i x (listOf x ++ (add v ∷ [])) .0) (wishing o i (grow v) y)
   insert-inv i v free y q b l f = absurd (true≢false b)
   insert-inv i v (opened s n es) away q b l f = absurd q
@@ -180,7 +180,7 @@ module _ (st : State) (o : Observer) (inv : Inv st o) where
         same = same-insert es ws (q .same) v;
       }
 
-  commit-inv : (i : ℕ) (x : Session) (y : Seat) → SitsNow x y → isFree x ≡ false → conflicts (st .log) (startOf x) (listOf x) ≡ false
+  commit-inv : (i : ℕ) (x : Session) (y : Visitor) → SitsNow x y → isFree x ≡ false → conflicts (st .log) (startOf x) (listOf x) ≡ false
       → st .rows + length (inserts (listOf x)) ≤ maxRows → Inv (committing st i (startOf x) (listOf x)) (commitsNow o i y)
   unfolding commitChanges
   commit-inv i free y q b e m = absurd (true≢false b)
@@ -191,11 +191,11 @@ module _ (st : State) (o : Observer) (inv : Inv st o) where
             commit-keeps (st .values) (o .column) (st .rows) (st .log) (st .chains) (o .events) (inv .core) s (q .old) es ws (q .same) (q .once)
             (rw (q .count) at (q .fits)) m e;
         sessions-are = length-set (st .sessions) i free ∙ inv .sessions-are;
-        seats-are = length-set (o .seats) i away ∙ inv .seats-are;
+        visitors-are = length-set (o .visitors) i away ∙ inv .visitors-are;
         sat =
-            pair-set (Sits (st .values) (o .column) (o .events ++ (committed ws ∷ []))) free away (st .sessions) (o .seats)
-            (inv .sessions-are ∙ sym (inv .seats-are))
-            (λ j. sits-on (st .values) (o .column) (o .events) (committed ws) (session st j) (seat o j) (inv .sat j)) i free away tt;
+            pair-set (Sits (st .values) (o .column) (o .events ++ (committed ws ∷ []))) free away (st .sessions) (o .visitors)
+            (inv .sessions-are ∙ sym (inv .visitors-are))
+            (λ j. sits-on (st .values) (o .column) (o .events) (committed ws) (session st j) (visitor o j) (inv .sat j)) i free away tt;
       }
 
   -- the rows that a tidy moves, in the rules' words and in the observer's
@@ -204,7 +204,7 @@ module _ (st : State) (o : Observer) (inv : Inv st o) where
       moved-rows (st .log) (chain (st .chains) v) v (o .column) (o .events) (inv .core .agrees v w) k l
       (columns-fit (st .values) (o .column) (st .rows) (st .log) (o .events) (inv .core .logged) k)
 
-  tidy-inv : (v : ℕ) (x : Session) (y : Seat) → SitsNow x y → isFree x ≡ false → v < st .values
+  tidy-inv : (v : ℕ) (x : Session) (y : Visitor) → SitsNow x y → isFree x ≡ false → v < st .values
       → stale (st .log) (chain (st .chains) v) (startOf x) v ≡ false → Inv (tidying st (startOf x) v) (tidiesNow o v y)
   tidy-inv v free y q b l e = absurd (true≢false b)
   tidy-inv v (opened s n es) away q b l e = absurd q
@@ -213,11 +213,11 @@ module _ (st : State) (o : Observer) (inv : Inv st o) where
       record {
         core = tidy-keeps (st .values) (o .column) (st .rows) (st .log) (st .chains) (o .events) (inv .core) s (q .old) v l e;
         sessions-are = inv .sessions-are;
-        seats-are = inv .seats-are;
-        sat = λ j. sits-on (st .values) (o .column) (o .events) (tidied v (moved (st .log) s v)) (session st j) (seat o j) (inv .sat j);
+        visitors-are = inv .visitors-are;
+        sat = λ j. sits-on (st .values) (o .column) (o .events) (tidied v (moved (st .log) s v)) (session st j) (visitor o j) (inv .sat j);
       }
 
-  begin-watched : (i : ℕ) (x : Session) → watches o (begin i) (beginning st i x .1) ≡ sitsDown o i (seat o i)
+  begin-watched : (i : ℕ) (x : Session) → watches o (begin i) (beginning st i x .1) ≡ sitsDown o i (visitor o i)
   unfolding watches accepts
   begin-watched i free = refl
   begin-watched i (opened s n es) = refl
@@ -226,17 +226,17 @@ module _ (st : State) (o : Observer) (inv : Inv st o) where
   pub accepted : (c : Call) → AllFail (tests st c) → Inv (effect st c .0) (watches o c (effect st c .1))
   unfolding tests effect watches accepts
   accepted (create C col) p = start-inv C col (p .0)
-  accepted (begin i) p = rw (begin-watched i (session st i)) (begin-inv i (session st i) (seat o i) (inv .sat i))
+  accepted (begin i) p = rw (begin-watched i (session st i)) (begin-inv i (session st i) (visitor o i) (inv .sat i))
   accepted (query i v t n) p = inv
   accepted (read i r) p = inv
   accepted (update i r v) p =
-      put-inv i r (some v) (session st i) (seat o i) (inv .sat i) (p .1 .0) (leb-false _ _ (p .1 .1 .1 .0)) (leb-false _ _ (p .1 .1 .0)) (p .1 .1 .1 .1 .1 .0)
+      put-inv i r (some v) (session st i) (visitor o i) (inv .sat i) (p .1 .0) (leb-false _ _ (p .1 .1 .1 .0)) (leb-false _ _ (p .1 .1 .0)) (p .1 .1 .1 .1 .1 .0)
   accepted (delete i r) p =
-      put-inv i r none (session st i) (seat o i) (inv .sat i) (p .1 .0) (leb-false _ _ (p .1 .1 .0)) tt (p .1 .1 .1 .1 .0)
-  accepted (insert i v) p = insert-inv i v (session st i) (seat o i) (inv .sat i) (p .1 .0) (leb-false _ _ (p .1 .1 .0)) (p .1 .1 .1 .0)
+      put-inv i r none (session st i) (visitor o i) (inv .sat i) (p .1 .0) (leb-false _ _ (p .1 .1 .0)) tt (p .1 .1 .1 .1 .0)
+  accepted (insert i v) p = insert-inv i v (session st i) (visitor o i) (inv .sat i) (p .1 .0) (leb-false _ _ (p .1 .1 .0)) (p .1 .1 .1 .0)
   accepted (commit i) p =
-      commit-inv i (session st i) (seat o i) (inv .sat i) (p .1 .0) (p .1 .1 .1 .0) (ltb-false _ _ (p .1 .1 .1 .1 .0))
-  accepted (tidy i v) p = tidy-inv v (session st i) (seat o i) (inv .sat i) (p .1 .0) (leb-false _ _ (p .1 .1 .0)) (p .1 .1 .1 .1 .0)
+      commit-inv i (session st i) (visitor o i) (inv .sat i) (p .1 .0) (p .1 .1 .1 .0) (ltb-false _ _ (p .1 .1 .1 .1 .0))
+  accepted (tidy i v) p = tidy-inv v (session st i) (visitor o i) (inv .sat i) (p .1 .0) (leb-false _ _ (p .1 .1 .0)) (p .1 .1 .1 .1 .0)
   accepted (abort i) p = reseat i free away tt
 
   -- every call keeps the invariant: a refused one changes nothing, and the observer notes nothing

@@ -15,9 +15,10 @@ use Rattle.bits.specs.Cases.{same-truth}
 use Rattle.bits.specs.Choice.{orElse}
 use Rattle.bits.specs.Rows.{countBelow, length-rows, where-cut}
 use Rattle.rules.specs.State.{Change, Record, Log, Entry, alter, add}
-use Rattle.rules.specs.Log.{above, changesOf, naming, lastNaming, someChange, names}
+use Rattle.rules.specs.Log.{above, changesOf, naming, lastNaming, someChange}
 use Rattle.rules.specs.Lists.{target, lists, put, inserts}
 use Rattle.rules.specs.Commit.{rowChanges, insertChanges, conflicts}
+pub use Rattle.rules.specs.Commit.{someOf, hits, hitsList}
 use Rattle.rules.proofs.Small.{or-parts}
 use Rattle.rules.proofs.Changes.{someChange-append, names-append, lastNaming-append}
 
@@ -29,11 +30,6 @@ swap-or false true c d = sym (or-comm c true)
 swap-or false false c d = refl
 
 module _ {A : Type 0} where
-  -- whether an element has p
-  abbrev pub someOf : (A → Bool) → List A → Bool
-  someOf p [] = false
-  someOf p (x ∷ xs) = p x || someOf p xs
-
   module _ (p : A → Bool) where
     pub some-append : (xs ys : List A) → someOf p (xs ++ ys) ≡ (someOf p xs || someOf p ys)
     some-append [] ys = refl
@@ -95,15 +91,6 @@ module _ (cs : List Change) (r j : ℕ) (d : Change) (h : j < length cs) where
   last-passed-past n = rw more (last-past (take j cs) (getD cs j d) r n)
 
 -- ---- the conflict search: records above the start, and for each the listed rows
-
--- whether one of the changes names the entry's row
-abbrev pub hits : List Change → Entry → Bool
-hits cs (alter r t) = names cs r
-hits cs (add v) = false
-
--- whether one of the changes names a listed row
-abbrev pub hitsList : List Entry → List Change → Bool
-hitsList es cs = someOf (hits cs) es
 
 hits-append : (a b : List Change) (e : Entry) → hits (a ++ b) e ≡ (hits a e || hits b e)
 hits-append a b (alter r t) = names-append a b r

@@ -4,12 +4,7 @@ use mathlib.Core.Path.{_≡_, refl}
 use mathlib.Core.Bool.{Bool, true, false, cond}
 use mathlib.Core.Option.{none, some, Option·some-ne-none}
 use mathlib.Core.List.{List, [], _∷_}
-use Rattle.rules.specs.Refusals.{Test, firstOf}
-
--- every test of the table fails
-abbrev pub AllFail : List Test → Type 0
-AllFail [] = Unit {0}
-AllFail (t ∷ ts) = (t .0 ≡ false) × AllFail ts
+use Rattle.rules.specs.Refusals.{Test, firstOf, AllFail}
 
 -- where no number is given, every test fails
 pub all-fail : (ts : List Test) → firstOf ts ≡ none → AllFail ts

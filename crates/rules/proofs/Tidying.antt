@@ -16,7 +16,7 @@ use Rattle.bits.specs.Bit.{bit, clearBit, bit-clear}
 use Rattle.bits.specs.Rows.{rowsBelow, rows-mem, mem-rows}
 use Rattle.bits.specs.Choice.{orElse}
 use Rattle.rules.specs.Limits.{maxRows}
-use Rattle.rules.specs.State.{Change, Record, tidies as tidyKind, Log, Version, Chain, chain}
+use Rattle.rules.specs.State.{Change, Record, tidies, Log, Version, Chain, chain}
 use Rattle.rules.specs.Log.{stampOf, above, grown, changesOf, lastNaming, names, someChange, flipSet}
 use Rattle.rules.specs.Versions.{newest, queried}
 use Rattle.rules.specs.Tidy.{moves, moved, stale, tidyChange, tidyChanges}
@@ -73,7 +73,7 @@ module _ (mk : ℕ → Change) (own : (q : ℕ) → mk q .row ≡ q) where
 
 -- the record of a tidy
 abbrev pub tidyOf : Log → ℕ → ℕ → ℕ → Record
-tidyOf log rows s v = record { kind = tidyKind; rows = rows; changes = tidyChanges log s v }
+tidyOf log rows s v = record { kind = tidies; rows = rows; changes = tidyChanges log s v }
 
 -- ---- the flip sets after a tidy of v at s
 

@@ -23,13 +23,13 @@ use Rattle.rules.specs.Lists.{lists, put, inserts}
 use Rattle.rules.specs.Commit.{newSet, rowChanges, insertChanges, commitChanges}
 use Rattle.rules.specs.Tidy.{moves, moved, tidyChange, tidyChanges}
 use Rattle.rules.specs.Calls.{Column, Call, create, begin, query, read, update, delete, insert, commit, tidy, abort}
-use Rattle.rules.specs.Refusals.{someOutside, badColumn, isFull, tests, refusal}
+use Rattle.rules.specs.Refusals.{someOutside, badColumn, isFull, tests, refusal, AllFail}
 use Rattle.rules.specs.Step.{firstChain, created, seated, beginning, relisted, rowsWith, commitRecord, committing, tidyRecord, tidyVersion, tidying, effect, unless, step, run}
-use Rattle.rules.specs.Damage.{Falls, VectorsFit, Within, EntriesFit, Once, SessionFits, Undamaged}
+use Rattle.rules.proofs.Invariant.{Falls, VectorsFit, Within, EntriesFit, Once, SessionFits, Undamaged}
 use Rattle.rules.proofs.Small.{clash, or-parts, length-snoc}
 use Rattle.rules.proofs.LogLaws.{stamp-empty, stamp-grown, allChanges-grown, rowsAt-new, fits-grown}
 use Rattle.rules.proofs.ListLaws.{length-put, once-put, fits-put, once-insert, fits-insert}
-use Rattle.rules.proofs.Tests.{AllFail, all-fail}
+use Rattle.rules.proofs.Tests.{all-fail}
 use Rattle.rules.proofs.Fits.{no-changes, count-low, count-now, changes-append, flipSet-low, flipSet-beyond, queried-beyond, smallest-low, toggled-low, rows-fit, inserts-fit, length-made, map-fit, falls-more, falls-cons, vectors-grown, session-grown}
 
 -- ---- a list changed at one place

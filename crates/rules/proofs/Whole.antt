@@ -9,14 +9,14 @@ use lib.ListN.{length}
 use Rattle.rules.specs.State.{Record, Log, Session, free, opened, State, session, isFree, startOf, listOf}
 use Rattle.rules.specs.Log.{stampOf, grown, rowsAt}
 use Rattle.rules.specs.Calls.{Column, Call, create, begin, query, read, update, delete, insert, commit, tidy, abort}
-use Rattle.rules.specs.Refusals.{badColumn, tests, refusal}
+use Rattle.rules.specs.Refusals.{badColumn, tests, refusal, AllFail}
 use Rattle.rules.specs.Step.{created, beginning, commitRecord, committing, tidyRecord, tidying, effect, unless, step, run, transcript}
-use Rattle.rules.specs.Damage.{Undamaged}
-use Rattle.rules.specs.Plain.{Wish, hold, grow, Event, committed, replay, Seat, away, sitting, Observer, seat, columnAt, sitsDown, wishing, commitsNow, tidiesNow, started, accepts, watches, observes}
+use Rattle.rules.proofs.Invariant.{Undamaged}
+use Rattle.rules.specs.Plain.{Wish, hold, grow, Event, committed, replay, Visitor, away, sitting, Observer, visitor, columnAt, sitsDown, wishing, commitsNow, tidiesNow, started, accepts, watches, observes}
 use Rattle.rules.proofs.Small.{length-snoc, up-to-next}
 use Rattle.rules.proofs.LogLaws.{rowsAt-old, rowsAt-new}
 use Rattle.rules.proofs.PlainLaws.{columnAfter, column-old, column-new, replay-append}
-use Rattle.rules.proofs.Tests.{AllFail, all-fail}
+use Rattle.rules.proofs.Tests.{all-fail}
 use Rattle.rules.proofs.Run.{Sits, Inv, start-inv, accepted, step-keeps}
 use Rattle.rules.proofs.Undamaged.{created-undamaged, step-undamaged}
 
@@ -47,22 +47,22 @@ counts-grown n col log h x e p c q =
     (rw (← p, rowsAt-new n log x, p, column-new col h e, ← (replay-append col h (e ∷ []))) q) (length-snoc h e)
 
 module _ (st : State) (o : Observer) (w : Whole st o) where
-  begin-counts : (i : ℕ) (x : Session) (y : Seat) → Counts (beginning st i x .0) (sitsDown o i y)
+  begin-counts : (i : ℕ) (x : Session) (y : Visitor) → Counts (beginning st i x .0) (sitsDown o i y)
   begin-counts i free away = w .counts
   begin-counts i free (sitting k ws) = w .counts
   begin-counts i (opened s n es) away = w .counts
   begin-counts i (opened s n es) (sitting k ws) = w .counts
 
-  begin-watched : (i : ℕ) (x : Session) → watches o (begin i) (beginning st i x .1) ≡ sitsDown o i (seat o i)
+  begin-watched : (i : ℕ) (x : Session) → watches o (begin i) (beginning st i x .1) ≡ sitsDown o i (visitor o i)
   unfolding watches accepts
   begin-watched i free = refl
   begin-watched i (opened s n es) = refl
 
-  wish-counts : (i : ℕ) (a : Wish) (y : Seat) → Counts st (wishing o i a y)
+  wish-counts : (i : ℕ) (a : Wish) (y : Visitor) → Counts st (wishing o i a y)
   wish-counts i a away = w .counts
   wish-counts i a (sitting k ws) = w .counts
 
-  commit-counts : (i : ℕ) (x : Session) (y : Seat) → Sits (st .values) (o .column) (o .events) x y → isFree x ≡ false
+  commit-counts : (i : ℕ) (x : Session) (y : Visitor) → Sits (st .values) (o .column) (o .events) x y → isFree x ≡ false
       → Inv (committing st i (startOf x) (listOf x)) (commitsNow o i y) → Counts (committing st i (startOf x) (listOf x)) (commitsNow o i y)
   commit-counts i free y q b v = absurd (true≢false b)
   commit-counts i (opened s n es) away q b v = absurd q
@@ -70,7 +70,7 @@ module _ (st : State) (o : Observer) (w : Whole st o) where
       counts-grown (st .first) (o .column) (st .log) (o .events) (commitRecord st s es) (committed ws) (w .inv .core .logged .pace) (w .counts)
       (v .core .logged .rows-now)
 
-  tidy-counts : (u : ℕ) (x : Session) (y : Seat) → Sits (st .values) (o .column) (o .events) x y → isFree x ≡ false
+  tidy-counts : (u : ℕ) (x : Session) (y : Visitor) → Sits (st .values) (o .column) (o .events) x y → isFree x ≡ false
       → Inv (tidying st (startOf x) u) (tidiesNow o u y) → Counts (tidying st (startOf x) u) (tidiesNow o u y)
   tidy-counts u free y q b v = absurd (true≢false b)
   tidy-counts u (opened s n es) away q b v = absurd q
@@ -81,14 +81,14 @@ module _ (st : State) (o : Observer) (w : Whole st o) where
   effect-counts : (c : Call) → AllFail (tests st c) → Inv (effect st c .0) (watches o c (effect st c .1)) → Counts (effect st c .0) (watches o c (effect st c .1))
   unfolding tests effect watches accepts
   effect-counts (create C col) p v = start-counts C col
-  effect-counts (begin i) p v = rw (begin-watched i (session st i)) (begin-counts i (session st i) (seat o i))
+  effect-counts (begin i) p v = rw (begin-watched i (session st i)) (begin-counts i (session st i) (visitor o i))
   effect-counts (query i u t n) p v = w .counts
   effect-counts (read i r) p v = w .counts
-  effect-counts (update i r u) p v = wish-counts i (hold r (some u)) (seat o i)
-  effect-counts (delete i r) p v = wish-counts i (hold r none) (seat o i)
-  effect-counts (insert i u) p v = wish-counts i (grow u) (seat o i)
-  effect-counts (commit i) p v = commit-counts i (session st i) (seat o i) (w .inv .sat i) (p .1 .0) v
-  effect-counts (tidy i u) p v = tidy-counts u (session st i) (seat o i) (w .inv .sat i) (p .1 .0) v
+  effect-counts (update i r u) p v = wish-counts i (hold r (some u)) (visitor o i)
+  effect-counts (delete i r) p v = wish-counts i (hold r none) (visitor o i)
+  effect-counts (insert i u) p v = wish-counts i (grow u) (visitor o i)
+  effect-counts (commit i) p v = commit-counts i (session st i) (visitor o i) (w .inv .sat i) (p .1 .0) v
+  effect-counts (tidy i u) p v = tidy-counts u (session st i) (visitor o i) (w .inv .sat i) (p .1 .0) v
   effect-counts (abort i) p v = w .counts
 
   step-counts : (c : Call) → Counts (step st c .0) (watches o c (step st c .1))

@@ -16,7 +16,7 @@ use Rattle.bits.specs.Choice.{orElse}
 use Rattle.rules.specs.State.{Entry, add}
 use Rattle.rules.specs.Lists.{target, lists, put, inserts, standing}
 use Rattle.rules.specs.Calls.{Column, cell}
-use Rattle.rules.specs.Plain.{Wish, hold, grow, rewritten, newRows, wished, wishes}
+use Rattle.rules.specs.Plain.{Wish, hold, grow, rewritten, newRows, isWished, countWished}
 use Rattle.rules.proofs.Small.{length-snoc}
 use Rattle.rules.proofs.ListLaws.{isGiven, lists-target, target-put, inserts-put, length-put, target-insert, inserts-insert}
 
@@ -30,7 +30,7 @@ lastWish (grow v ∷ ws) r = lastWish ws r
 pub record Same (es : List Entry) (ws : List Wish) : Type 0 where
   pub targets : (r : ℕ) → lastWish ws r ≡ target es r
   pub adds : newRows ws ≡ map some (inserts es)
-  pub count : wishes ws ≡ length es
+  pub count : countWished ws ≡ length es
 
 -- ---- what wishes do, by the last one for each row
 
@@ -44,7 +44,7 @@ given-one : {A : Type 0} (b : Bool) (a : A) → isGiven (cond b (some a) none) �
 given-one true a = refl
 given-one false a = refl
 
-wished-last : (ws : List Wish) (r : ℕ) → wished ws r ≡ isGiven (lastWish ws r)
+wished-last : (ws : List Wish) (r : ℕ) → isWished ws r ≡ isGiven (lastWish ws r)
 wished-last [] r = refl
 wished-last (hold q t ∷ ws) r = rw (given-or (lastWish ws r) (cond (eqb q r) (some t) none), given-one (eqb q r) t, wished-last ws r)
 wished-last (grow v ∷ ws) r = wished-last ws r
@@ -84,17 +84,17 @@ newRows-append [] us = refl
 newRows-append (hold q t ∷ ws) us = newRows-append ws us
 newRows-append (grow v ∷ ws) us = rw (newRows-append ws us)
 
-wished-append : (ws us : List Wish) (r : ℕ) → wished (ws ++ us) r ≡ (wished ws r || wished us r)
+wished-append : (ws us : List Wish) (r : ℕ) → isWished (ws ++ us) r ≡ (isWished ws r || isWished us r)
 wished-append [] us r = refl
-wished-append (hold q t ∷ ws) us r = rw (wished-append ws us r) (sym (or-assoc (eqb q r) (wished ws r) (wished us r)))
+wished-append (hold q t ∷ ws) us r = rw (wished-append ws us r) (sym (or-assoc (eqb q r) (isWished ws r) (isWished us r)))
 wished-append (grow v ∷ ws) us r = wished-append ws us r
 
 -- a wish for a row that is wished for already adds none
-wishes-hold : (ws : List Wish) (p : ℕ) (u : Option ℕ) → wishes (ws ++ (hold p u ∷ [])) ≡ cond (wished ws p) (wishes ws) (suc (wishes ws))
+wishes-hold : (ws : List Wish) (p : ℕ) (u : Option ℕ) → countWished (ws ++ (hold p u ∷ [])) ≡ cond (isWished ws p) (countWished ws) (suc (countWished ws))
 wishes-hold [] p u = refl
-wishes-hold (grow v ∷ ws) p u = rw (wishes-hold ws p u) (go (wished ws p))
+wishes-hold (grow v ∷ ws) p u = rw (wishes-hold ws p u) (go (isWished ws p))
   where
-    go : (b : Bool) → 1 + cond b (wishes ws) (suc (wishes ws)) ≡ cond b (1 + wishes ws) (suc (1 + wishes ws))
+    go : (b : Bool) → 1 + cond b (countWished ws) (suc (countWished ws)) ≡ cond b (1 + countWished ws) (suc (1 + countWished ws))
     go true = refl
     go false = omega arith
 wishes-hold (hold q t ∷ ws) p u = rw (wished-append ws (hold p u ∷ []) q, wishes-hold ws p u) (go (eq-cases p q))
@@ -108,16 +108,16 @@ wishes-hold (hold q t ∷ ws) p u = rw (wished-append ws (hold p u ∷ []) q, wi
     other a false n = omega arith
 
     go : (p ≡ q) ⊎ (p ≡ q → ⊥)
-        → cond (wished ws q || (eqb p q || false)) 0 1 + cond (wished ws p) (wishes ws) (suc (wishes ws))
-        ≡ cond (eqb q p || wished ws p) (cond (wished ws q) 0 1 + wishes ws) (suc (cond (wished ws q) 0 1 + wishes ws))
-    go (inl e) = rw (e, eq-eqb q q refl) (this (wished ws q) (wishes ws))
+        → cond (isWished ws q || (eqb p q || false)) 0 1 + cond (isWished ws p) (countWished ws) (suc (countWished ws))
+        ≡ cond (eqb q p || isWished ws p) (cond (isWished ws q) 0 1 + countWished ws) (suc (cond (isWished ws q) 0 1 + countWished ws))
+    go (inl e) = rw (e, eq-eqb q q refl) (this (isWished ws q) (countWished ws))
     go (inr d) =
-        rw (ne-eqb p q d, ne-eqb q p (λ x. d (sym x)), or-false (wished ws q)) (other (wished ws q) (wished ws p) (wishes ws))
+        rw (ne-eqb p q d, ne-eqb q p (λ x. d (sym x)), or-false (isWished ws q)) (other (isWished ws q) (isWished ws p) (countWished ws))
 
-wishes-grow : (ws : List Wish) (v : ℕ) → wishes (ws ++ (grow v ∷ [])) ≡ suc (wishes ws)
+wishes-grow : (ws : List Wish) (v : ℕ) → countWished (ws ++ (grow v ∷ [])) ≡ suc (countWished ws)
 wishes-grow [] v = refl
 wishes-grow (hold q t ∷ ws) v =
-    rw (wished-append ws (grow v ∷ []) q, or-false (wished ws q)) (omega (arith, wishes-grow ws v))
+    rw (wished-append ws (grow v ∷ []) q, or-false (isWished ws q)) (omega (arith, wishes-grow ws v))
 wishes-grow (grow w ∷ ws) v = omega (arith, wishes-grow ws v)
 
 -- ---- the joint: it holds of nothing, and each accepted request keeps it
@@ -127,7 +127,7 @@ same-none = record { targets = λ r. refl; adds = refl; count = refl }
 
 module _ (es : List Entry) (ws : List Wish) (s : Same es ws) where
   -- a row is wished for exactly if it is listed
-  pub same-lists : (r : ℕ) → wished ws r ≡ lists es r
+  pub same-lists : (r : ℕ) → isWished ws r ≡ lists es r
   same-lists r = rw (wished-last ws r, s .targets r, lists-target es r)
 
   -- the column that the wishes make has the targets of the list

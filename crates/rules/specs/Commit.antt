@@ -40,3 +40,19 @@ abbrev pub conflicts : Log → ℕ → List Entry → Bool
 conflicts log s [] = false
 conflicts log s (alter r t ∷ es) = names (changesOf (above log s)) r || conflicts log s es
 conflicts log s (add v ∷ es) = conflicts log s es
+
+-- ---- the same test, as a search finds it
+
+-- whether an element has p
+abbrev pub someOf : {A : Type 0} → (A → Bool) → List A → Bool
+someOf p [] = false
+someOf p (x ∷ xs) = p x || someOf p xs
+
+-- whether one of the changes names an entry's row; an insert has none
+abbrev pub hits : List Change → Entry → Bool
+hits cs (alter r t) = names cs r
+hits cs (add v) = false
+
+-- whether one of the changes names a listed row
+abbrev pub hitsList : List Entry → List Change → Bool
+hitsList es cs = someOf (hits cs) es

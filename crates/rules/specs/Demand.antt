@@ -10,7 +10,7 @@ use lib.Dec.{ltb}
 use lib.ListN.{length, drop}
 use Rattle.bits.specs.Rows.{Ascending}
 use Rattle.rules.specs.Calls.{Column, cell, Call, create, begin, query, read, update, delete, insert, commit, tidy, abort, Answer, refused, ok, value, listed}
-use Rattle.rules.specs.Plain.{Wish, Event, Seat, away, sitting, Observer, seat, columnAt, columnNow, holding, wishes, wishesOf, wished, touches, movedBy, accepts, watches}
+use Rattle.rules.specs.Plain.{Wish, Event, Visitor, away, sitting, Observer, visitor, columnAt, columnNow, holding, countWished, wishesOf, isWished, touches, movedBy, accepts, watches}
 
 -- a call that answers numbers only: where it is accepted, they are these
 abbrev pub Numbers : List ℕ → Answer → Type 0
@@ -24,7 +24,7 @@ Numbers ns (listed n d rs) = ⊥
 pub record Lists (o : Observer) (i v t n : ℕ) (d : Bool) (rs : List ℕ) : Type 0 where
   pub since : ℕ
   pub own : List Wish
-  pub is-open : seat o i ≡ sitting since own
+  pub is-open : visitor o i ≡ sitting since own
   pub rows-are : rs ≡ holding (columnAt o since) v
   pub exactly : (r : ℕ) → List·Memᴰ r rs ↔ (cell (columnAt o since) r ≡ some v)
   pub ascending : Ascending rs
@@ -41,7 +41,7 @@ RightQuery o i v t (listed n d rs) = Lists o i v t n d rs
 pub record Reads (o : Observer) (i r : ℕ) (x : Option ℕ) : Type 0 where
   pub since : ℕ
   pub own : List Wish
-  pub is-open : seat o i ≡ sitting since own
+  pub is-open : visitor o i ≡ sitting since own
   pub in-column : r < length (columnAt o since)
   pub cell-is : x ≡ cell (columnAt o since) r
 
@@ -52,40 +52,40 @@ RightRead o i r (value x) = Reads o i r x
 RightRead o i r (listed n d rs) = ⊥
 
 -- begin: the events so far and the length of the column now, or, where the session is open, those of its opening
-abbrev pub beginsAt : Observer → Seat → List ℕ
+abbrev pub beginsAt : Observer → Visitor → List ℕ
 beginsAt o away = length (o .events) ∷ length (columnNow o) ∷ []
 beginsAt o (sitting k ws) = k ∷ length (columnAt o k) ∷ []
 
 -- update, delete, insert: how many rows the session wishes for then
 abbrev pub listsThen : Observer → ℕ → Call → List ℕ
-listsThen o i c = wishes (wishesOf (seat (accepts o c) i)) ∷ []
+listsThen o i c = countWished (wishesOf (visitor (accepts o c) i)) ∷ []
 
 -- a row that one of the wishes is for and that one of the events touches
 abbrev pub Overtaken : List Event → List Wish → Type 0
-Overtaken h ws = (r : ℕ) × (e : Event) × (wished ws r ≡ true) × List·Memᴰ e h × (touches e r ≡ true)
+Overtaken h ws = (r : ℕ) × (e : Event) × (isWished ws r ≡ true) × List·Memᴰ e h × (touches e r ≡ true)
 
 -- commit: one more than the events so far, and the length of the column then; "A commit with something listed is refused for
 -- conflict exactly if, since the opening, an accepted commit listed or an accepted tidy moved one of its rows."
 pub record RightCommit (o : Observer) (i : ℕ) (a : Answer) : Type 0 where
   pub numbers : Numbers (suc (length (o .events)) ∷ length (columnNow (accepts o (commit i))) ∷ []) a
-  pub conflict : (k : ℕ) (w : Wish) (ws : List Wish) → seat o i ≡ sitting k (w ∷ ws) → (a ≡ refused 12) ↔ Overtaken (drop k (o .events)) (w ∷ ws)
+  pub conflict : (k : ℕ) (w : Wish) (ws : List Wish) → visitor o i ≡ sitting k (w ∷ ws) → (a ≡ refused 12) ↔ Overtaken (drop k (o .events)) (w ∷ ws)
 
 -- tidy: one more than the events so far, and how many rows it moves
-abbrev pub tidiesAt : Observer → ℕ → Seat → List ℕ
+abbrev pub tidiesAt : Observer → ℕ → Visitor → List ℕ
 tidiesAt o v away = []
 tidiesAt o v (sitting k ws) = suc (length (o .events)) ∷ length (movedBy o k v) ∷ []
 
 abbrev pub Right : Observer → Call → Answer → Type 0
 Right o (create C col) a = Numbers (length col ∷ []) a
-Right o (begin i) a = Numbers (beginsAt o (seat o i)) a
+Right o (begin i) a = Numbers (beginsAt o (visitor o i)) a
 Right o (query i v t n) a = RightQuery o i v t a
 Right o (read i r) a = RightRead o i r a
 Right o (update i r v) a = Numbers (listsThen o i (update i r v)) a
 Right o (delete i r) a = Numbers (listsThen o i (delete i r)) a
 Right o (insert i v) a = Numbers (listsThen o i (insert i v)) a
 Right o (commit i) a = RightCommit o i a
-Right o (tidy i v) a = Numbers (tidiesAt o v (seat o i)) a
-Right o (abort i) a = Numbers (wishes (wishesOf (seat o i)) ∷ []) a
+Right o (tidy i v) a = Numbers (tidiesAt o v (visitor o i)) a
+Right o (abort i) a = Numbers (countWished (wishesOf (visitor o i)) ∷ []) a
 
 -- each call of a transcript is right, the observer standing where it stands before the call
 abbrev pub AllRight : Observer → List (Call × Answer) → Type 0

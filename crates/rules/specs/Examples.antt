@@ -6,7 +6,7 @@ use mathlib.Core.Option.{some}
 use mathlib.Core.List.{List, [], _∷_, _++_, map}
 use Prim.Native.Nat.{ℕ}
 use lib.ListN.{getD, take}
-use Rattle.bits.specs.Bit.{bit}
+use Rattle.bits.specs.Bit.{bit, setBit}
 use Rattle.bits.specs.Words.{bitAt}
 use Rattle.bits.specs.Rows.{rowsBelow}
 use Rattle.rules.specs.Limits.{maxRows}
@@ -72,6 +72,15 @@ lastAnswer st [] = refused 0
 lastAnswer st (c ∷ []) = step st c .1
 lastAnswer st (c ∷ d ∷ cs) = lastAnswer (step st c .0) (d ∷ cs)
 
+-- the set of some values
+unfoldable pub setOf : List ℕ → ℕ
+setOf [] = 0
+setOf (v ∷ vs) = setBit (setOf vs) v
+
+-- a record of one change: "row 0 with {1,3}"
+abbrev pub rowWith : ℕ → List ℕ → List (ℕ × ℕ)
+rowWith r vs = (r, setOf vs) ∷ []
+
 -- the records of a state, each as its rows with their sets
 abbrev pub recordsOf : State → List (List (ℕ × ℕ))
 recordsOf st = map (λ (x : Record). map (λ (c : Change). (c .row, c .flips)) (x .changes)) (st .log)
@@ -80,8 +89,7 @@ recordsOf st = map (λ (x : Record). map (λ (c : Change). (c .row, c .flips)) (
 abbrev pub newestRows : State → ℕ → List ℕ
 newestRows st v = rowsBelow (newest (chain (st .chains) v) .vector) maxRows
 
--- P1 to P10, from whatever state the run's `column` finds. A flip set is its number: {1,3} is 10, {1} is 2, {1,2,3} is 14,
--- {2} is 4.
+-- P1 to P10, from whatever state the run's `column` finds
 pub record Marked : Type 0 where
   -- "Output, a line each: `ok 4`, `ok 0 4`, .."
   pub printed-answers : (st : State)
@@ -89,9 +97,9 @@ pub record Marked : Type 0 where
       ≡ ok (4 ∷ []) ∷ ok (0 ∷ 4 ∷ []) ∷ ok (0 ∷ 4 ∷ []) ∷ ok (1 ∷ []) ∷ ok (1 ∷ 4 ∷ []) ∷ listed 0 false (0 ∷ 3 ∷ []) ∷ ok (1 ∷ 4 ∷ [])
       ∷ listed 1 false (3 ∷ []) ∷ ok (2 ∷ 1 ∷ []) ∷ listed 1 false (0 ∷ []) ∷ ok (1 ∷ []) ∷ refused 12 ∷ ok (1 ∷ []) ∷ []
   -- "record 1 is row 0 with {1,3}"
-  pub p1 : (st : State) → recordsOf (run st (take 5 printed)) ≡ ((0, 10) ∷ []) ∷ []
+  pub p1 : (st : State) → recordsOf (run st (take 5 printed)) ≡ rowWith 0 (1 ∷ 3 ∷ []) ∷ []
   -- "record 2 is row 0 with {1}"
-  pub p2 : (st : State) → recordsOf (run st (take 9 printed)) ≡ ((0, 10) ∷ []) ∷ ((0, 2) ∷ []) ∷ []
+  pub p2 : (st : State) → recordsOf (run st (take 9 printed)) ≡ rowWith 0 (1 ∷ 3 ∷ []) ∷ rowWith 0 (1 ∷ []) ∷ []
   -- "value 3's new slot has row 0 only"
   pub p3 : (st : State) → newestRows (run st (take 9 printed)) 3 ≡ 0 ∷ []
   -- "session 1 lists rows 0 and 3 for value 1 after commit 1"
@@ -101,13 +109,13 @@ pub record Marked : Type 0 where
   -- "P6 `begin 1` starts at 2; `update 1 0 2` and `commit 1` write record 3, row 0 with {1,2,3}"
   pub p6-start : (st : State) → lastAnswer st (printed ++ take 1 printed₆) ≡ ok (2 ∷ 4 ∷ [])
   pub p6-record : (st : State)
-      → recordsOf (run st (printed ++ take 3 printed₆)) ≡ ((0, 10) ∷ []) ∷ ((0, 2) ∷ []) ∷ ((0, 14) ∷ []) ∷ []
+      → recordsOf (run st (printed ++ take 3 printed₆)) ≡ rowWith 0 (1 ∷ 3 ∷ []) ∷ rowWith 0 (1 ∷ []) ∷ rowWith 0 (1 ∷ 2 ∷ 3 ∷ []) ∷ []
   -- "P7 `begin 0` there still answers `ok 1 4`"
   pub p7 : (st : State) → lastAnswer st (printed ++ printed₆) ≡ ok (1 ∷ 4 ∷ [])
   -- "P8 .. (record 4: row 4 with {2}), `tidy 0 2` is refused by 14"
   pub p8-record : (st : State)
       → recordsOf (run st (printed ++ printed₆ ++ take 5 printed₈))
-      ≡ ((0, 10) ∷ []) ∷ ((0, 2) ∷ []) ∷ ((0, 14) ∷ []) ∷ ((4, 4) ∷ []) ∷ []
+      ≡ rowWith 0 (1 ∷ 3 ∷ []) ∷ rowWith 0 (1 ∷ []) ∷ rowWith 0 (1 ∷ 2 ∷ 3 ∷ []) ∷ rowWith 4 (2 ∷ []) ∷ []
   pub p8 : (st : State) → lastAnswer st (printed ++ printed₆ ++ printed₈) ≡ refused 14
   -- "P9 `column 1` makes 0 rows; a query of 0 lists none."
   pub p9 : (st : State) → answers st printed₉ ≡ ok (0 ∷ []) ∷ ok (0 ∷ 0 ∷ []) ∷ listed 0 false [] ∷ []
@@ -118,7 +126,8 @@ pub record Marked : Type 0 where
 pub record Caught : Type 0 where
   -- with the emptied set left out of record 3, the older {1} would come back in record 4, and row 0 would be listed too
   pub emptied : lastAnswer start emptying ≡ listed 0 false (3 ∷ [])
-  pub emptied-records : recordsOf (run start emptying) ≡ ((0, 10) ∷ []) ∷ ((0, 2) ∷ []) ∷ ((0, 0) ∷ []) ∷ ((0, 12) ∷ []) ∷ []
+  pub emptied-records : recordsOf (run start emptying)
+      ≡ rowWith 0 (1 ∷ 3 ∷ []) ∷ rowWith 0 (1 ∷ []) ∷ rowWith 0 [] ∷ rowWith 0 (2 ∷ 3 ∷ []) ∷ []
   -- with the older {1,3} counted after the newer {}, row 0 would be listed
   pub returned : lastAnswer start returning ≡ listed 0 false []
   -- with the second change dropped, row 0 would hold 3

@@ -8,7 +8,7 @@ pub mod Tidy
 pub mod Calls
 pub mod Refusals
 pub mod Step
-pub mod Damage
 pub mod Plain
 pub mod Demand
+pub mod Moved
 pub mod Examples

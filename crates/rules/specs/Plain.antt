@@ -30,16 +30,16 @@ abbrev pub met : Column → List Wish → Column
 met col ws = rewritten col ws ++ newRows ws
 
 -- whether a wish is for row r
-abbrev pub wished : List Wish → ℕ → Bool
-wished [] r = false
-wished (hold q t ∷ ws) r = eqb q r || wished ws r
-wished (grow v ∷ ws) r = wished ws r
+abbrev pub isWished : List Wish → ℕ → Bool
+isWished [] r = false
+isWished (hold q t ∷ ws) r = eqb q r || isWished ws r
+isWished (grow v ∷ ws) r = isWished ws r
 
 -- how many rows are wished for, each counted once, the new ones too
-abbrev pub wishes : List Wish → ℕ
-wishes [] = 0
-wishes (hold r t ∷ ws) = cond (wished ws r) 0 1 + wishes ws
-wishes (grow v ∷ ws) = 1 + wishes ws
+abbrev pub countWished : List Wish → ℕ
+countWished [] = 0
+countWished (hold r t ∷ ws) = cond (isWished ws r) 0 1 + countWished ws
+countWished (grow v ∷ ws) = 1 + countWished ws
 
 -- what was accepted: a commit of some wishes, or a tidy of a value with the rows that it moved
 pub data Event : Type 0 where
@@ -53,21 +53,21 @@ replay col (committed ws ∷ h) = replay (met col ws) h
 replay col (tidied v rs ∷ h) = replay col h
 
 -- a session as the observer sees it: away, or sitting since so many events, with its wishes as they came
-pub data Seat : Type 0 where
-  away : Seat
-  sitting : ℕ → List Wish → Seat
+pub data Visitor : Type 0 where
+  away : Visitor
+  sitting : ℕ → List Wish → Visitor
 
-abbrev pub wishesOf : Seat → List Wish
+abbrev pub wishesOf : Visitor → List Wish
 wishesOf away = []
 wishesOf (sitting k ws) = ws
 
 pub record Observer : Type 0 where
   pub column : Column
   pub events : List Event
-  pub seats : List Seat
+  pub visitors : List Visitor
 
-abbrev pub seat : Observer → ℕ → Seat
-seat o i = getD (o .seats) i away
+abbrev pub visitor : Observer → ℕ → Visitor
+visitor o i = getD (o .visitors) i away
 
 -- the column after the commits among the first k events, and after all of them
 abbrev pub columnAt : Observer → ℕ → Column
@@ -81,13 +81,13 @@ abbrev pub holding : Column → ℕ → List ℕ
 holding col v = rowsBelow (λ r. holds (cell col r) v) (length col)
 
 -- how many of some events there are up to the last tidy of v (0: none)
-abbrev pub tidies : ℕ → Event → Bool
-tidies v (committed ws) = false
-tidies v (tidied w rs) = eqb w v
+abbrev pub isTidyOf : ℕ → Event → Bool
+isTidyOf v (committed ws) = false
+isTidyOf v (tidied w rs) = eqb w v
 
 abbrev pub lastFrom : ℕ → ℕ → ℕ → List Event → ℕ
 lastFrom v n found [] = found
-lastFrom v n found (e ∷ h) = lastFrom v (suc n) (cond (tidies v e) (suc n) found) h
+lastFrom v n found (e ∷ h) = lastFrom v (suc n) (cond (isTidyOf v e) (suc n) found) h
 
 abbrev pub lastTidy : ℕ → List Event → ℕ
 lastTidy v h = lastFrom v 0 0 h
@@ -107,44 +107,44 @@ inRows [] r = false
 inRows (q ∷ rs) r = eqb q r || inRows rs r
 
 abbrev pub touches : Event → ℕ → Bool
-touches (committed ws) r = wished ws r
+touches (committed ws) r = isWished ws r
 touches (tidied v rs) r = inRows rs r
 
 -- what the observer notes of an accepted call
-abbrev pub sits : Observer → ℕ → Seat → Observer
-sits o i x = record { column = o .column; events = o .events; seats = set (o .seats) i x }
+abbrev pub sits : Observer → ℕ → Visitor → Observer
+sits o i x = record { column = o .column; events = o .events; visitors = set (o .visitors) i x }
 
-abbrev pub sitsDown : Observer → ℕ → Seat → Observer
+abbrev pub sitsDown : Observer → ℕ → Visitor → Observer
 sitsDown o i away = sits o i (sitting (length (o .events)) [])
 sitsDown o i (sitting k ws) = o
 
-abbrev pub wishing : Observer → ℕ → Wish → Seat → Observer
+abbrev pub wishing : Observer → ℕ → Wish → Visitor → Observer
 wishing o i w away = o
 wishing o i w (sitting k ws) = sits o i (sitting k (ws ++ (w ∷ [])))
 
-abbrev pub commitsNow : Observer → ℕ → Seat → Observer
+abbrev pub commitsNow : Observer → ℕ → Visitor → Observer
 commitsNow o i away = o
 commitsNow o i (sitting k ws) =
-    record { column = o .column; events = o .events ++ (committed ws ∷ []); seats = set (o .seats) i away }
+    record { column = o .column; events = o .events ++ (committed ws ∷ []); visitors = set (o .visitors) i away }
 
-abbrev pub tidiesNow : Observer → ℕ → Seat → Observer
+abbrev pub tidiesNow : Observer → ℕ → Visitor → Observer
 tidiesNow o v away = o
 tidiesNow o v (sitting k ws) =
-    record { column = o .column; events = o .events ++ (tidied v (movedBy o k v) ∷ []); seats = o .seats }
+    record { column = o .column; events = o .events ++ (tidied v (movedBy o k v) ∷ []); visitors = o .visitors }
 
 unfoldable pub started : Column → Observer
-started col = record { column = col; events = []; seats = replicate 16 away }
+started col = record { column = col; events = []; visitors = replicate 16 away }
 
 unfoldable pub accepts : Observer → Call → Observer
 accepts o (create C col) = started col
-accepts o (begin i) = sitsDown o i (seat o i)
+accepts o (begin i) = sitsDown o i (visitor o i)
 accepts o (query i v t n) = o
 accepts o (read i r) = o
-accepts o (update i r v) = wishing o i (hold r (some v)) (seat o i)
-accepts o (delete i r) = wishing o i (hold r none) (seat o i)
-accepts o (insert i v) = wishing o i (grow v) (seat o i)
-accepts o (commit i) = commitsNow o i (seat o i)
-accepts o (tidy i v) = tidiesNow o v (seat o i)
+accepts o (update i r v) = wishing o i (hold r (some v)) (visitor o i)
+accepts o (delete i r) = wishing o i (hold r none) (visitor o i)
+accepts o (insert i v) = wishing o i (grow v) (visitor o i)
+accepts o (commit i) = commitsNow o i (visitor o i)
+accepts o (tidy i v) = tidiesNow o v (visitor o i)
 accepts o (abort i) = sits o i away
 
 -- a refused call is no call

@@ -1,8 +1,9 @@
 -- The refusals of each call, as a table in the order in which they are judged: a test and its number.
 -- Assumes nothing.
+use mathlib.Core.Path.{_≡_}
 use mathlib.Core.Bool.{Bool, true, false, not, _&&_, _||_, cond}
 use mathlib.Core.Option.{Option, none, some}
-use mathlib.Core.List.{List, [], _∷_}
+use mathlib.Core.List.{List, [], _∷_, _++_}
 use Prim.Native.Nat.{ℕ, _+_}
 use lib.Dec.{eqb, leb, ltb}
 use lib.ListN.{length}
@@ -23,6 +24,18 @@ Test = Bool × ℕ
 abbrev pub firstOf : List Test → Option ℕ
 firstOf [] = none
 firstOf (t ∷ ts) = cond (t .0) (some (t .1)) (firstOf ts)
+
+-- every test of a table fails
+abbrev pub AllFail : List Test → Type 0
+AllFail [] = Unit {0}
+AllFail (t ∷ ts) = (t .0 ≡ false) × AllFail ts
+
+-- a test of a table holds, with the number n, and those before it fail
+pub record First (ts : List Test) (n : ℕ) : Type 0 where
+  pub before : List Test
+  pub after : List Test
+  pub split : ts ≡ before ++ ((true, n) ∷ after)
+  pub fail : AllFail before
 
 -- "a byte neither below C nor 255": a value not below C
 abbrev pub outside : ℕ → Option ℕ → Bool

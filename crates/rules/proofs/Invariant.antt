@@ -1,13 +1,13 @@
--- Document 01's "Damaged tables", sentence by sentence, over the state that the tables mean.
--- Assumes nothing.
+-- What number 2's sentences, where none of them fails, give of the state that the tables mean: an invariant of every call. It is
+-- not the decision of number 2, which is over cells (`sound` of `tables`). Assumes nothing.
 use mathlib.Core.Path.{_≡_}
-use mathlib.Core.Bool.{Bool, true, false}
+use mathlib.Core.Bool.{false}
 use mathlib.Core.Option.{Option, none, some}
 use mathlib.Core.List.{List, [], _∷_}
 use Prim.Native.Nat.{ℕ, suc, _^_, _≤_, _<_}
 use lib.ListN.{length}
 use Rattle.rules.specs.Limits.{maxValues, maxRows, maxSlots, maxRecords, maxChanges, maxSessions, maxEntries}
-use Rattle.rules.specs.State.{Change, Log, Version, Chain, Entry, alter, add, Session, free, opened, State, chain, session}
+use Rattle.rules.specs.State.{Change, Log, Chain, Entry, alter, add, Session, free, opened, State, chain, session}
 use Rattle.rules.specs.Log.{stampOf, allChanges, rowsAt}
 use Rattle.rules.specs.Lists.{lists}
 
