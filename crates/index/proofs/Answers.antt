@@ -1,29 +1,58 @@
 -- The answer of a call and what a core comes to, as plain data in a walk, and what whoever holds the latter knows of its parts.
 -- Assumes nothing.
 use mathlib.Core.List.{[], _∷_}
-use mir.Syntax.{w64}
-use mir.Val.{vint}
 use denote.Laws.{Is}
 use denote.Struct.Laws as SLaws
-use Rattle.lent.proofs.Data.{Data, number, struct, enum}
-use Rattle.lent.proofs.Types.{session}
-use Rattle.calls.specs.declared.answers.Done.{Done}
+use Rattle.lent.proofs.Data.{Data, flag, struct, enum}
+use Rattle.lent.proofs.Types.{stamp, row, session}
+use Rattle.lent.proofs.Slices.{Knowns}
+use Rattle.lent.proofs.Passes.{values}
+use Rattle.calls.specs.declared.answers.Begun.{Begun}
+use Rattle.calls.specs.declared.answers.Relisted.{Relisted}
+use Rattle.calls.specs.declared.answers.Freed.{Freed}
 use Rattle.calls.proofs.answers.Answer as A
 use Rattle.calls.proofs.answers.Answer.Laws as AL
-use Rattle.calls.proofs.answers.Done as D
-use Rattle.calls.proofs.answers.Done.Laws as DL
+use Rattle.calls.proofs.answers.Begun as B
+use Rattle.calls.proofs.answers.Begun.Laws as BL
+use Rattle.calls.proofs.answers.Relisted as R
+use Rattle.calls.proofs.answers.Relisted.Laws as RL
+use Rattle.calls.proofs.answers.Freed as F
+use Rattle.calls.proofs.answers.Freed.Laws as FL
 
 abbrev pub the-answer : Data
 the-answer = enum A.the-type AL.the-laws tt AL.the-plain AL.the-copy
 
-abbrev pub the-done : Data
-the-done = struct D.the-type DL.the-laws DL.the-plain DL.the-copy
+-- begin's
+abbrev pub the-begun : Data
+the-begun = struct B.the-type BL.the-laws BL.the-plain BL.the-copy
 
-pub answered : (d : Done) → Is (the-done .row) d (the-done .val d ∷ []) → Is (the-answer .row) (d .answer) (the-answer .val (d .answer) ∷ [])
-answered d is = SLaws.owed D.the-type DL.the-laws d _ is .0
+pub begun-answer : (d : Begun) → Is (the-begun .row) d (the-begun .val d ∷ []) → Is (the-answer .row) (d .answer)
+    (the-answer .val (d .answer) ∷ [])
+begun-answer d is = SLaws.owed B.the-type BL.the-laws d _ is .0
 
-pub placed : (d : Done) → Is (the-done .row) d (the-done .val d ∷ []) → Is (number w64 .row) (d .place) (vint w64 (d .place) ∷ [])
-placed d is = SLaws.owed D.the-type DL.the-laws d _ is .1 .0
+pub begun-parts : (d : Begun) → Is (the-begun .row) d (the-begun .val d ∷ []) → Knowns (values (flag ∷ stamp ∷ row ∷ []))
+    (d .yes, (d .start, (d .rows, tt)))
+begun-parts d is = let o = SLaws.owed B.the-type BL.the-laws d _ is in (o .1 .0, (o .1 .1 .0, (o .1 .1 .1 .0, tt)))
 
-pub seated : (d : Done) → Is (the-done .row) d (the-done .val d ∷ []) → Is (session .row) (d .session) (session .val (d .session) ∷ [])
-seated d is = SLaws.owed D.the-type DL.the-laws d _ is .1 .1 .0
+-- that of update, delete and insert
+abbrev pub the-relisted : Data
+the-relisted = struct R.the-type RL.the-laws RL.the-plain RL.the-copy
+
+pub relisted-answer : (d : Relisted) → Is (the-relisted .row) d (the-relisted .val d ∷ []) → Is (the-answer .row) (d .answer)
+    (the-answer .val (d .answer) ∷ [])
+relisted-answer d is = SLaws.owed R.the-type RL.the-laws d _ is .0
+
+pub relisted-parts : (d : Relisted) → Is (the-relisted .row) d (the-relisted .val d ∷ []) → Knowns (values (flag ∷ session ∷ []))
+    (d .yes, (d .session, tt))
+relisted-parts d is = let o = SLaws.owed R.the-type RL.the-laws d _ is in (o .1 .0, (o .1 .1 .0, tt))
+
+-- that of commit, abort and create
+abbrev pub the-freed : Data
+the-freed = struct F.the-type FL.the-laws FL.the-plain FL.the-copy
+
+pub freed-answer : (d : Freed) → Is (the-freed .row) d (the-freed .val d ∷ []) → Is (the-answer .row) (d .answer)
+    (the-answer .val (d .answer) ∷ [])
+freed-answer d is = SLaws.owed F.the-type FL.the-laws d _ is .0
+
+pub freed-parts : (d : Freed) → Is (the-freed .row) d (the-freed .val d ∷ []) → Knowns (values (flag ∷ [])) (d .yes, tt)
+freed-parts d is = (SLaws.owed F.the-type FL.the-laws d _ is .1 .0, tt)

@@ -1,6 +1,5 @@
 -- The walks of the outer calls.
 -- Assumes nothing.
 pub mod Answers
-pub mod Through
-pub mod Scratch
+pub mod Calls
 pub mod Once

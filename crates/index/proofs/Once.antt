@@ -15,8 +15,7 @@ use Rattle.calls.specs.declared.answers.Answer.the-variants.{No, Count, At, Rea
 use Rattle.calls.specs.declared.answers.Place.the-variants.{Slot, Scratch}
 use Rattle.calls.specs.Said.{Said, no, numbers, value, words, said}
 use Rattle.calls.specs.Outcome.{Outcome}
-use Rattle.calls.specs.Query.{QueryOutcome}
-use Rattle.index.specs.Once.{Once, OnceAsked, NoSecond}
+use Rattle.index.specs.Once.{Once, NoSecond}
 
 -- ---- the reason that a number is given for
 reasons : List Refusal
@@ -56,7 +55,7 @@ abbrev answerOf : Said → Answer
 answerOf (no n) = No (reasonOf n)
 answerOf (numbers []) = Count 0
 answerOf (numbers (n ∷ [])) = Count n
-answerOf (numbers (s ∷ n ∷ [])) = At (record { 0 = s }) n
+answerOf (numbers (s ∷ n ∷ [])) = At (record { 0 = s }) (record { 0 = n })
 answerOf (numbers (s ∷ n ∷ m ∷ ns)) = Count 0
 answerOf (value none) = Read Absent
 answerOf (value (some v)) = Read (Holds (record { 0 = v }))
@@ -78,20 +77,17 @@ said-one a b e = sym (answer-again a) ∙ ap answerOf e ∙ answer-again b
 
 -- ---- a contract that is an equality has no second outcome
 once : (call : _) → Once call
-once call t t₁ t₂ a₁ a₂ h₁ h₂ = (ap (λ (o : Outcome). o .after) (h₁ ∙ sym h₂), said-one a₁ a₂ (ap (λ (o : Outcome). o .answer) (h₁ ∙ sym h₂)))
-
-once-asked : (call : _) → OnceAsked call
-once-asked call t t₁ t₂ s s₁ s₂ a₁ a₂ h₁ h₂ = (
-  ap (λ (o : QueryOutcome). o .after) (h₁ ∙ sym h₂),
-  ap (λ (o : QueryOutcome). o .scratch) (h₁ ∙ sym h₂),
-  said-one a₁ a₂ (ap (λ (o : QueryOutcome). o .answer) (h₁ ∙ sym h₂)),
+once call t t₁ t₂ bs₁ bs₂ a₁ a₂ h₁ h₂ = (
+  ap (λ (o : Outcome). o .after) (h₁ ∙ sym h₂),
+  ap (λ (o : Outcome). o .buffers) (h₁ ∙ sym h₂),
+  said-one a₁ a₂ (ap (λ (o : Outcome). o .answer) (h₁ ∙ sym h₂)),
 )
 
 pub no-second : NoSecond
 no-second = record {
   create = λ c column. once _;
   begin = λ n. once _;
-  query = λ n v threshold. once-asked _;
+  query = λ scratch n v threshold. once _;
   read = λ n row. once _;
   update = λ n row v. once _;
   delete = λ n row. once _;

@@ -10,25 +10,21 @@ use Rattle.calls.specs.declared.answers.Place.{Place}
 use Rattle.calls.specs.Said.{said, placeOf}
 use Rattle.calls.specs.Outcome.{Outcome, outcome}
 use Rattle.calls.specs.Calls.{createOf, beginOf, readOf, updateOf, deleteOf, insertOf, commitOf, tidyOf, abortOf}
-use Rattle.calls.specs.Query.{QueryOutcome, queryOutcome, queryOf, pickedFrom}
+use Rattle.calls.specs.Query.{queryOf, pickedFrom}
 
--- of the tables t, two tables afterwards with two answers that both meet the contract are the same
+-- of the tables t: two outcomes, each the tables, the further lent buffers and the answer afterwards, that both meet the contract
+-- are the same
 abbrev pub Once : (Tables → Outcome) → Type 0
 Once call =
-    (t t₁ t₂ : Tables) (a₁ a₂ : Answer) → outcome t₁ (said a₁) ≡ call t → outcome t₂ (said a₂) ≡ call t → (t₁ ≡ t₂) × (a₁ ≡ a₂)
-
--- the same with the scratch
-abbrev pub OnceAsked : (Tables → List ℕ → QueryOutcome) → Type 0
-OnceAsked call =
-    (t t₁ t₂ : Tables) (s s₁ s₂ : List ℕ) (a₁ a₂ : Answer)
-    → queryOutcome t₁ s₁ (said a₁) ≡ call t s → queryOutcome t₂ s₂ (said a₂) ≡ call t s
-    → (t₁ ≡ t₂) × (s₁ ≡ s₂) × (a₁ ≡ a₂)
+    (t t₁ t₂ : Tables) (bs₁ bs₂ : List (List ℕ)) (a₁ a₂ : Answer)
+    → outcome t₁ bs₁ (said a₁) ≡ call t → outcome t₂ bs₂ (said a₂) ≡ call t
+    → (t₁ ≡ t₂) × (bs₁ ≡ bs₂) × (a₁ ≡ a₂)
 
 -- "show that no second outcome satisfies it": of each of the ten calls, and of the words that the picker returns
 pub record NoSecond : Type 0 where
   pub create : (c : ℕ) (column : List ℕ) → Once (λ t. createOf t c column)
   pub begin : (n : ℕ) → Once (λ t. beginOf t n)
-  pub query : (n v threshold : ℕ) → OnceAsked (λ t s. queryOf t s n v threshold)
+  pub query : (scratch : List ℕ) (n v threshold : ℕ) → Once (λ t. queryOf t scratch n v threshold)
   pub read : (n row : ℕ) → Once (λ t. readOf t n row)
   pub update : (n row v : ℕ) → Once (λ t. updateOf t n row v)
   pub delete : (n row : ℕ) → Once (λ t. deleteOf t n row)

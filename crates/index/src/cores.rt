@@ -1,25 +1,31 @@
-// The cores with every table lent `&mut`, as the outer calls lend them; whether an answer is no refusal. Assumes nothing.
+// The cores with every table lent `&mut`, as the outer calls lend them, and the session that a call sees in the place of the session
+// table. Here a caller's numbers become rows and values.
 use calls::Answer;
-use calls::Done;
+use calls::Begun;
+use calls::Freed;
+use calls::Relisted;
 use lent::Seat;
-ghost use mathlib.Core.Path.{_≡_};
+ghost use mathlib.Core.List.{[], _∷_};
 ghost use Rattle.tables.specs.Cells.{tables};
-ghost use Rattle.calls.specs.Seats as calls;
-ghost use Rattle.calls.specs.Seats.{Serves, Asks};
-ghost use Rattle.calls.specs.Calls.{beginOf, readOf, updateOf, deleteOf, insertOf, commitOf, abortOf};
+ghost use Rattle.calls.specs.Seats.{Serves, Creates, opening, relisting, freeing, untouched};
+ghost use Rattle.calls.specs.Calls.{createOf, beginOf, readOf, updateOf, deleteOf, insertOf, commitOf, tidyOf, abortOf};
 ghost use Rattle.calls.specs.Query.{queryOf};
 
-// Whether an answer is no refusal.
-pub fn accepted(answer: Answer) -> bool
-    ensures { λ r. ⌜ r ≡ calls.accepted answer ⌝ }
+// Create, of a session table with so many places.
+pub fn create_at(
+    clock: &mut [u32],
+    slots: &mut [u32],
+    words: &mut [u64],
+    heads: &mut [u32],
+    log: &mut [u32],
+    changes: &mut [u32],
+    places: usize,
+    c: u64,
+    column: &[u8],
+) -> Freed
+    ensures { λ r. ⌜ Creates (tables (now (clock .entry)) (now (slots .entry)) (now (words .entry)) (now (heads .entry)) (now (log .entry)) (now (changes .entry))) (tables (now (clock .exit)) (now (slots .exit)) (now (words .exit)) (now (heads .exit)) (now (log .exit)) (now (changes .exit))) places r (λ t. createOf t c (now (column .entry))) ⌝ }
 {
-    match answer {
-        Answer::No(_) => false,
-        Answer::Count(_) => true,
-        Answer::At(_, _) => true,
-        Answer::Read(_) => true,
-        Answer::Listed(_, _, _) => true,
-    }
+    creating::create_in(clock, slots, words, heads, log, changes, places, c, column)
 }
 
 // Begin.
@@ -32,8 +38,8 @@ pub fn begin_at(
     changes: &mut [u32],
     seat: Seat,
     n: u64,
-) -> Done
-    ensures { λ r. ⌜ Serves (tables (now (clock .entry)) (now (slots .entry)) (now (words .entry)) (now (heads .entry)) (now (log .entry)) (now (changes .entry))) (tables (now (clock .exit)) (now (slots .exit)) (now (words .exit)) (now (heads .exit)) (now (log .exit)) (now (changes .exit))) (λ t. beginOf t n) seat n r ⌝ }
+) -> Begun
+    ensures { λ r. ⌜ Serves (tables (now (clock .entry)) (now (slots .entry)) (now (words .entry)) (now (heads .entry)) (now (log .entry)) (now (changes .entry))) (tables (now (clock .exit)) (now (slots .exit)) (now (words .exit)) (now (heads .exit)) (now (log .exit)) (now (changes .exit))) [] seat n (opening r n) (r .answer) (λ t. beginOf t n) ⌝ }
 {
     reading::begin_in(clock, slots, words, heads, log, changes, seat, n)
 }
@@ -46,14 +52,15 @@ pub fn query_at(
     heads: &mut [u32],
     log: &mut [u32],
     changes: &mut [u32],
-    scratch: &mut [u64],
     seat: Seat,
+    scratch: &mut [u64],
     n: u64,
     v: u64,
     threshold: u64,
-) -> Done
-    ensures { λ r. ⌜ Asks (tables (now (clock .entry)) (now (slots .entry)) (now (words .entry)) (now (heads .entry)) (now (log .entry)) (now (changes .entry))) (tables (now (clock .exit)) (now (slots .exit)) (now (words .exit)) (now (heads .exit)) (now (log .exit)) (now (changes .exit))) (now (scratch .entry)) (now (scratch .exit)) (λ t ws. queryOf t ws n v threshold) seat n r ⌝ }
+) -> Answer
+    ensures { λ r. ⌜ Serves (tables (now (clock .entry)) (now (slots .entry)) (now (words .entry)) (now (heads .entry)) (now (log .entry)) (now (changes .entry))) (tables (now (clock .exit)) (now (slots .exit)) (now (words .exit)) (now (heads .exit)) (now (log .exit)) (now (changes .exit))) (now (scratch .exit) ∷ []) seat n untouched r (λ t. queryOf t (now (scratch .entry)) n v threshold) ⌝ }
 {
+    let value = calls::value_of(v);
     reading::query_in(
         clock,
         slots,
@@ -64,7 +71,7 @@ pub fn query_at(
         scratch,
         seat,
         n,
-        v,
+        value,
         threshold,
     )
 }
@@ -80,10 +87,11 @@ pub fn read_at(
     seat: Seat,
     n: u64,
     row: u64,
-) -> Done
-    ensures { λ r. ⌜ Serves (tables (now (clock .entry)) (now (slots .entry)) (now (words .entry)) (now (heads .entry)) (now (log .entry)) (now (changes .entry))) (tables (now (clock .exit)) (now (slots .exit)) (now (words .exit)) (now (heads .exit)) (now (log .exit)) (now (changes .exit))) (λ t. readOf t n row) seat n r ⌝ }
+) -> Answer
+    ensures { λ r. ⌜ Serves (tables (now (clock .entry)) (now (slots .entry)) (now (words .entry)) (now (heads .entry)) (now (log .entry)) (now (changes .entry))) (tables (now (clock .exit)) (now (slots .exit)) (now (words .exit)) (now (heads .exit)) (now (log .exit)) (now (changes .exit))) [] seat n untouched r (λ t. readOf t n row) ⌝ }
 {
-    reading::read_in(clock, slots, words, heads, log, changes, seat, n, row)
+    let at = calls::row_of(row);
+    reading::read_in(clock, slots, words, heads, log, changes, seat, n, at)
 }
 
 // Update.
@@ -98,10 +106,12 @@ pub fn update_at(
     n: u64,
     row: u64,
     v: u64,
-) -> Done
-    ensures { λ r. ⌜ Serves (tables (now (clock .entry)) (now (slots .entry)) (now (words .entry)) (now (heads .entry)) (now (log .entry)) (now (changes .entry))) (tables (now (clock .exit)) (now (slots .exit)) (now (words .exit)) (now (heads .exit)) (now (log .exit)) (now (changes .exit))) (λ t. updateOf t n row v) seat n r ⌝ }
+) -> Relisted
+    ensures { λ r. ⌜ Serves (tables (now (clock .entry)) (now (slots .entry)) (now (words .entry)) (now (heads .entry)) (now (log .entry)) (now (changes .entry))) (tables (now (clock .exit)) (now (slots .exit)) (now (words .exit)) (now (heads .exit)) (now (log .exit)) (now (changes .exit))) [] seat n (relisting r n) (r .answer) (λ t. updateOf t n row v) ⌝ }
 {
-    listing::update_in(clock, slots, words, heads, log, changes, seat, n, row, v)
+    let at = calls::row_of(row);
+    let value = calls::value_of(v);
+    listing::update_in(clock, slots, words, heads, log, changes, seat, n, at, value)
 }
 
 // Delete.
@@ -115,10 +125,11 @@ pub fn delete_at(
     seat: Seat,
     n: u64,
     row: u64,
-) -> Done
-    ensures { λ r. ⌜ Serves (tables (now (clock .entry)) (now (slots .entry)) (now (words .entry)) (now (heads .entry)) (now (log .entry)) (now (changes .entry))) (tables (now (clock .exit)) (now (slots .exit)) (now (words .exit)) (now (heads .exit)) (now (log .exit)) (now (changes .exit))) (λ t. deleteOf t n row) seat n r ⌝ }
+) -> Relisted
+    ensures { λ r. ⌜ Serves (tables (now (clock .entry)) (now (slots .entry)) (now (words .entry)) (now (heads .entry)) (now (log .entry)) (now (changes .entry))) (tables (now (clock .exit)) (now (slots .exit)) (now (words .exit)) (now (heads .exit)) (now (log .exit)) (now (changes .exit))) [] seat n (relisting r n) (r .answer) (λ t. deleteOf t n row) ⌝ }
 {
-    listing::delete_in(clock, slots, words, heads, log, changes, seat, n, row)
+    let at = calls::row_of(row);
+    listing::delete_in(clock, slots, words, heads, log, changes, seat, n, at)
 }
 
 // Insert.
@@ -132,10 +143,11 @@ pub fn insert_at(
     seat: Seat,
     n: u64,
     v: u64,
-) -> Done
-    ensures { λ r. ⌜ Serves (tables (now (clock .entry)) (now (slots .entry)) (now (words .entry)) (now (heads .entry)) (now (log .entry)) (now (changes .entry))) (tables (now (clock .exit)) (now (slots .exit)) (now (words .exit)) (now (heads .exit)) (now (log .exit)) (now (changes .exit))) (λ t. insertOf t n v) seat n r ⌝ }
+) -> Relisted
+    ensures { λ r. ⌜ Serves (tables (now (clock .entry)) (now (slots .entry)) (now (words .entry)) (now (heads .entry)) (now (log .entry)) (now (changes .entry))) (tables (now (clock .exit)) (now (slots .exit)) (now (words .exit)) (now (heads .exit)) (now (log .exit)) (now (changes .exit))) [] seat n (relisting r n) (r .answer) (λ t. insertOf t n v) ⌝ }
 {
-    listing::insert_in(clock, slots, words, heads, log, changes, seat, n, v)
+    let value = calls::value_of(v);
+    listing::insert_in(clock, slots, words, heads, log, changes, seat, n, value)
 }
 
 // Commit.
@@ -148,10 +160,28 @@ pub fn commit_at(
     changes: &mut [u32],
     seat: Seat,
     n: u64,
-) -> Done
-    ensures { λ r. ⌜ Serves (tables (now (clock .entry)) (now (slots .entry)) (now (words .entry)) (now (heads .entry)) (now (log .entry)) (now (changes .entry))) (tables (now (clock .exit)) (now (slots .exit)) (now (words .exit)) (now (heads .exit)) (now (log .exit)) (now (changes .exit))) (λ t. commitOf t n) seat n r ⌝ }
+) -> Freed
+    ensures { λ r. ⌜ Serves (tables (now (clock .entry)) (now (slots .entry)) (now (words .entry)) (now (heads .entry)) (now (log .entry)) (now (changes .entry))) (tables (now (clock .exit)) (now (slots .exit)) (now (words .exit)) (now (heads .exit)) (now (log .exit)) (now (changes .exit))) [] seat n (freeing r n) (r .answer) (λ t. commitOf t n) ⌝ }
 {
     committing::commit_in(clock, slots, words, heads, log, changes, seat, n)
+}
+
+// Tidy.
+pub fn tidy_at(
+    clock: &mut [u32],
+    slots: &mut [u32],
+    words: &mut [u64],
+    heads: &mut [u32],
+    log: &mut [u32],
+    changes: &mut [u32],
+    seat: Seat,
+    n: u64,
+    v: u64,
+) -> Answer
+    ensures { λ r. ⌜ Serves (tables (now (clock .entry)) (now (slots .entry)) (now (words .entry)) (now (heads .entry)) (now (log .entry)) (now (changes .entry))) (tables (now (clock .exit)) (now (slots .exit)) (now (words .exit)) (now (heads .exit)) (now (log .exit)) (now (changes .exit))) [] seat n untouched r (λ t. tidyOf t n v) ⌝ }
+{
+    let value = calls::value_of(v);
+    tidying::tidy_in(clock, slots, words, heads, log, changes, seat, n, value)
 }
 
 // Abort.
@@ -164,8 +194,8 @@ pub fn abort_at(
     changes: &mut [u32],
     seat: Seat,
     n: u64,
-) -> Done
-    ensures { λ r. ⌜ Serves (tables (now (clock .entry)) (now (slots .entry)) (now (words .entry)) (now (heads .entry)) (now (log .entry)) (now (changes .entry))) (tables (now (clock .exit)) (now (slots .exit)) (now (words .exit)) (now (heads .exit)) (now (log .exit)) (now (changes .exit))) (λ t. abortOf t n) seat n r ⌝ }
+) -> Freed
+    ensures { λ r. ⌜ Serves (tables (now (clock .entry)) (now (slots .entry)) (now (words .entry)) (now (heads .entry)) (now (log .entry)) (now (changes .entry))) (tables (now (clock .exit)) (now (slots .exit)) (now (words .exit)) (now (heads .exit)) (now (log .exit)) (now (changes .exit))) [] seat n (freeing r n) (r .answer) (λ t. abortOf t n) ⌝ }
 {
     reading::abort_in(clock, slots, words, heads, log, changes, seat, n)
 }

@@ -1,22 +1,24 @@
-// The ten calls, over every lent table: each finds its seat, goes through its core, and puts back the session that the core names.
-// Assumes nothing.
+// The ten calls, over every lent table: each finds its seat and goes through its core; then its session is opened, put back or freed,
+// where the core says so.
 use crate::cores::abort_at;
-use crate::cores::accepted;
 use crate::cores::begin_at;
 use crate::cores::commit_at;
+use crate::cores::create_at;
 use crate::cores::delete_at;
 use crate::cores::insert_at;
 use crate::cores::query_at;
 use crate::cores::read_at;
+use crate::cores::tidy_at;
 use crate::cores::update_at;
 use calls::Answer;
 use tables::Session;
 ghost use mathlib.Core.Path.{_≡_};
+ghost use mathlib.Core.List.{[], _∷_};
 ghost use Rattle.tables.specs.Cells.{tables};
 ghost use Rattle.calls.specs.Said.{said};
 ghost use Rattle.calls.specs.Outcome.{outcome};
 ghost use Rattle.calls.specs.Calls.{createOf, beginOf, readOf, updateOf, deleteOf, insertOf, commitOf, tidyOf, abortOf};
-ghost use Rattle.calls.specs.Query.{queryOutcome, queryOf};
+ghost use Rattle.calls.specs.Query.{queryOf};
 
 // Create: the row count.
 pub fn create(
@@ -30,13 +32,12 @@ pub fn create(
     c: u64,
     column: &[u8],
 ) -> Answer
-    ensures { λ r. ⌜ outcome (tables (now (clock .exit)) (now (slots .exit)) (now (words .exit)) (now (heads .exit)) (now (log .exit)) (now (changes .exit)) (now (sessions .exit))) (said r) ≡ createOf (tables (now (clock .entry)) (now (slots .entry)) (now (words .entry)) (now (heads .entry)) (now (log .entry)) (now (changes .entry)) (now (sessions .entry))) c (now (column .entry)) ⌝ }
+    ensures { λ r. ⌜ outcome (tables (now (clock .exit)) (now (slots .exit)) (now (words .exit)) (now (heads .exit)) (now (log .exit)) (now (changes .exit)) (now (sessions .exit))) [] (said r) ≡ createOf (tables (now (clock .entry)) (now (slots .entry)) (now (words .entry)) (now (heads .entry)) (now (log .entry)) (now (changes .entry)) (now (sessions .entry))) c (now (column .entry)) ⌝ }
 {
     let many = lent::places(sessions);
-    let answer = creating::create_in(clock, slots, words, heads, log, changes, many, c, column);
-    let yes = accepted(answer);
-    lent::free_all(sessions, yes);
-    answer
+    let d = create_at(clock, slots, words, heads, log, changes, many, c, column);
+    lent::free_all(sessions, d.yes);
+    d.answer
 }
 
 // Begin: the start stamp and row count.
@@ -50,11 +51,11 @@ pub fn begin(
     sessions: &mut [Session],
     n: u64,
 ) -> Answer
-    ensures { λ r. ⌜ outcome (tables (now (clock .exit)) (now (slots .exit)) (now (words .exit)) (now (heads .exit)) (now (log .exit)) (now (changes .exit)) (now (sessions .exit))) (said r) ≡ beginOf (tables (now (clock .entry)) (now (slots .entry)) (now (words .entry)) (now (heads .entry)) (now (log .entry)) (now (changes .entry)) (now (sessions .entry))) n ⌝ }
+    ensures { λ r. ⌜ outcome (tables (now (clock .exit)) (now (slots .exit)) (now (words .exit)) (now (heads .exit)) (now (log .exit)) (now (changes .exit)) (now (sessions .exit))) [] (said r) ≡ beginOf (tables (now (clock .entry)) (now (slots .entry)) (now (words .entry)) (now (heads .entry)) (now (log .entry)) (now (changes .entry)) (now (sessions .entry))) n ⌝ }
 {
     let seat = lent::seat_of(clock, log, sessions, n);
     let d = begin_at(clock, slots, words, heads, log, changes, seat, n);
-    lent::put(sessions, d.place, d.session);
+    lent::open(sessions, n, d.yes, d.start, d.rows);
     d.answer
 }
 
@@ -72,24 +73,22 @@ pub fn query(
     v: u64,
     threshold: u64,
 ) -> Answer
-    ensures { λ r. ⌜ queryOutcome (tables (now (clock .exit)) (now (slots .exit)) (now (words .exit)) (now (heads .exit)) (now (log .exit)) (now (changes .exit)) (now (sessions .exit))) (now (scratch .exit)) (said r) ≡ queryOf (tables (now (clock .entry)) (now (slots .entry)) (now (words .entry)) (now (heads .entry)) (now (log .entry)) (now (changes .entry)) (now (sessions .entry))) (now (scratch .entry)) n v threshold ⌝ }
+    ensures { λ r. ⌜ outcome (tables (now (clock .exit)) (now (slots .exit)) (now (words .exit)) (now (heads .exit)) (now (log .exit)) (now (changes .exit)) (now (sessions .exit))) (now (scratch .exit) ∷ []) (said r) ≡ queryOf (tables (now (clock .entry)) (now (slots .entry)) (now (words .entry)) (now (heads .entry)) (now (log .entry)) (now (changes .entry)) (now (sessions .entry))) (now (scratch .entry)) n v threshold ⌝ }
 {
     let seat = lent::seat_of(clock, log, sessions, n);
-    let d = query_at(
+    query_at(
         clock,
         slots,
         words,
         heads,
         log,
         changes,
-        scratch,
         seat,
+        scratch,
         n,
         v,
         threshold,
-    );
-    lent::put(sessions, d.place, d.session);
-    d.answer
+    )
 }
 
 // Read: the row's value, or that it is absent.
@@ -104,12 +103,10 @@ pub fn read(
     n: u64,
     row: u64,
 ) -> Answer
-    ensures { λ r. ⌜ outcome (tables (now (clock .exit)) (now (slots .exit)) (now (words .exit)) (now (heads .exit)) (now (log .exit)) (now (changes .exit)) (now (sessions .exit))) (said r) ≡ readOf (tables (now (clock .entry)) (now (slots .entry)) (now (words .entry)) (now (heads .entry)) (now (log .entry)) (now (changes .entry)) (now (sessions .entry))) n row ⌝ }
+    ensures { λ r. ⌜ outcome (tables (now (clock .exit)) (now (slots .exit)) (now (words .exit)) (now (heads .exit)) (now (log .exit)) (now (changes .exit)) (now (sessions .exit))) [] (said r) ≡ readOf (tables (now (clock .entry)) (now (slots .entry)) (now (words .entry)) (now (heads .entry)) (now (log .entry)) (now (changes .entry)) (now (sessions .entry))) n row ⌝ }
 {
     let seat = lent::seat_of(clock, log, sessions, n);
-    let d = read_at(clock, slots, words, heads, log, changes, seat, n, row);
-    lent::put(sessions, d.place, d.session);
-    d.answer
+    read_at(clock, slots, words, heads, log, changes, seat, n, row)
 }
 
 // Update: the list's length.
@@ -125,11 +122,11 @@ pub fn update(
     row: u64,
     v: u64,
 ) -> Answer
-    ensures { λ r. ⌜ outcome (tables (now (clock .exit)) (now (slots .exit)) (now (words .exit)) (now (heads .exit)) (now (log .exit)) (now (changes .exit)) (now (sessions .exit))) (said r) ≡ updateOf (tables (now (clock .entry)) (now (slots .entry)) (now (words .entry)) (now (heads .entry)) (now (log .entry)) (now (changes .entry)) (now (sessions .entry))) n row v ⌝ }
+    ensures { λ r. ⌜ outcome (tables (now (clock .exit)) (now (slots .exit)) (now (words .exit)) (now (heads .exit)) (now (log .exit)) (now (changes .exit)) (now (sessions .exit))) [] (said r) ≡ updateOf (tables (now (clock .entry)) (now (slots .entry)) (now (words .entry)) (now (heads .entry)) (now (log .entry)) (now (changes .entry)) (now (sessions .entry))) n row v ⌝ }
 {
     let seat = lent::seat_of(clock, log, sessions, n);
     let d = update_at(clock, slots, words, heads, log, changes, seat, n, row, v);
-    lent::put(sessions, d.place, d.session);
+    lent::put(sessions, n, d.yes, d.session);
     d.answer
 }
 
@@ -145,11 +142,11 @@ pub fn delete(
     n: u64,
     row: u64,
 ) -> Answer
-    ensures { λ r. ⌜ outcome (tables (now (clock .exit)) (now (slots .exit)) (now (words .exit)) (now (heads .exit)) (now (log .exit)) (now (changes .exit)) (now (sessions .exit))) (said r) ≡ deleteOf (tables (now (clock .entry)) (now (slots .entry)) (now (words .entry)) (now (heads .entry)) (now (log .entry)) (now (changes .entry)) (now (sessions .entry))) n row ⌝ }
+    ensures { λ r. ⌜ outcome (tables (now (clock .exit)) (now (slots .exit)) (now (words .exit)) (now (heads .exit)) (now (log .exit)) (now (changes .exit)) (now (sessions .exit))) [] (said r) ≡ deleteOf (tables (now (clock .entry)) (now (slots .entry)) (now (words .entry)) (now (heads .entry)) (now (log .entry)) (now (changes .entry)) (now (sessions .entry))) n row ⌝ }
 {
     let seat = lent::seat_of(clock, log, sessions, n);
     let d = delete_at(clock, slots, words, heads, log, changes, seat, n, row);
-    lent::put(sessions, d.place, d.session);
+    lent::put(sessions, n, d.yes, d.session);
     d.answer
 }
 
@@ -165,11 +162,11 @@ pub fn insert(
     n: u64,
     v: u64,
 ) -> Answer
-    ensures { λ r. ⌜ outcome (tables (now (clock .exit)) (now (slots .exit)) (now (words .exit)) (now (heads .exit)) (now (log .exit)) (now (changes .exit)) (now (sessions .exit))) (said r) ≡ insertOf (tables (now (clock .entry)) (now (slots .entry)) (now (words .entry)) (now (heads .entry)) (now (log .entry)) (now (changes .entry)) (now (sessions .entry))) n v ⌝ }
+    ensures { λ r. ⌜ outcome (tables (now (clock .exit)) (now (slots .exit)) (now (words .exit)) (now (heads .exit)) (now (log .exit)) (now (changes .exit)) (now (sessions .exit))) [] (said r) ≡ insertOf (tables (now (clock .entry)) (now (slots .entry)) (now (words .entry)) (now (heads .entry)) (now (log .entry)) (now (changes .entry)) (now (sessions .entry))) n v ⌝ }
 {
     let seat = lent::seat_of(clock, log, sessions, n);
     let d = insert_at(clock, slots, words, heads, log, changes, seat, n, v);
-    lent::put(sessions, d.place, d.session);
+    lent::put(sessions, n, d.yes, d.session);
     d.answer
 }
 
@@ -184,11 +181,11 @@ pub fn commit(
     sessions: &mut [Session],
     n: u64,
 ) -> Answer
-    ensures { λ r. ⌜ outcome (tables (now (clock .exit)) (now (slots .exit)) (now (words .exit)) (now (heads .exit)) (now (log .exit)) (now (changes .exit)) (now (sessions .exit))) (said r) ≡ commitOf (tables (now (clock .entry)) (now (slots .entry)) (now (words .entry)) (now (heads .entry)) (now (log .entry)) (now (changes .entry)) (now (sessions .entry))) n ⌝ }
+    ensures { λ r. ⌜ outcome (tables (now (clock .exit)) (now (slots .exit)) (now (words .exit)) (now (heads .exit)) (now (log .exit)) (now (changes .exit)) (now (sessions .exit))) [] (said r) ≡ commitOf (tables (now (clock .entry)) (now (slots .entry)) (now (words .entry)) (now (heads .entry)) (now (log .entry)) (now (changes .entry)) (now (sessions .entry))) n ⌝ }
 {
     let seat = lent::seat_of(clock, log, sessions, n);
     let d = commit_at(clock, slots, words, heads, log, changes, seat, n);
-    lent::put(sessions, d.place, d.session);
+    lent::free(sessions, n, d.yes);
     d.answer
 }
 
@@ -204,12 +201,10 @@ pub fn tidy(
     n: u64,
     v: u64,
 ) -> Answer
-    ensures { λ r. ⌜ outcome (tables (now (clock .exit)) (now (slots .exit)) (now (words .exit)) (now (heads .exit)) (now (log .exit)) (now (changes .exit)) (now (sessions .exit))) (said r) ≡ tidyOf (tables (now (clock .entry)) (now (slots .entry)) (now (words .entry)) (now (heads .entry)) (now (log .entry)) (now (changes .entry)) (now (sessions .entry))) n v ⌝ }
+    ensures { λ r. ⌜ outcome (tables (now (clock .exit)) (now (slots .exit)) (now (words .exit)) (now (heads .exit)) (now (log .exit)) (now (changes .exit)) (now (sessions .exit))) [] (said r) ≡ tidyOf (tables (now (clock .entry)) (now (slots .entry)) (now (words .entry)) (now (heads .entry)) (now (log .entry)) (now (changes .entry)) (now (sessions .entry))) n v ⌝ }
 {
     let seat = lent::seat_of(clock, log, sessions, n);
-    let d = tidying::tidy_in(clock, slots, words, heads, log, changes, seat, n, v);
-    lent::put(sessions, d.place, d.session);
-    d.answer
+    tidy_at(clock, slots, words, heads, log, changes, seat, n, v)
 }
 
 // Abort: the length of the list dropped.
@@ -223,10 +218,10 @@ pub fn abort(
     sessions: &mut [Session],
     n: u64,
 ) -> Answer
-    ensures { λ r. ⌜ outcome (tables (now (clock .exit)) (now (slots .exit)) (now (words .exit)) (now (heads .exit)) (now (log .exit)) (now (changes .exit)) (now (sessions .exit))) (said r) ≡ abortOf (tables (now (clock .entry)) (now (slots .entry)) (now (words .entry)) (now (heads .entry)) (now (log .entry)) (now (changes .entry)) (now (sessions .entry))) n ⌝ }
+    ensures { λ r. ⌜ outcome (tables (now (clock .exit)) (now (slots .exit)) (now (words .exit)) (now (heads .exit)) (now (log .exit)) (now (changes .exit)) (now (sessions .exit))) [] (said r) ≡ abortOf (tables (now (clock .entry)) (now (slots .entry)) (now (words .entry)) (now (heads .entry)) (now (log .entry)) (now (changes .entry)) (now (sessions .entry))) n ⌝ }
 {
     let seat = lent::seat_of(clock, log, sessions, n);
     let d = abort_at(clock, slots, words, heads, log, changes, seat, n);
-    lent::put(sessions, d.place, d.session);
+    lent::free(sessions, n, d.yes);
     d.answer
 }

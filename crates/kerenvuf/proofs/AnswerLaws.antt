@@ -5,6 +5,7 @@ use mathlib.Core.Bool.{Bool, cond}
 use Prim.Native.Nat.{ℕ, _+_, _≤_, _<_}
 use borrow.Author.Tests.{lt-ltb, le-ltb}
 use Rattle.tables.specs.declared.counts.Stamp.{Stamp}
+use Rattle.tables.specs.declared.counts.Row.{Row}
 use Rattle.tables.specs.declared.counts.Value.{Value}
 use Rattle.tables.specs.declared.refusal.Refusal.{Refusal}
 use Rattle.tables.specs.Refusals.{numberOf}
@@ -41,7 +42,7 @@ module _ (a : Answer) (r : KvAnswer) where
   pub says-count : (n : ℕ) → a ≡ Count n → r ≡ kv 0 1 n 0 0 → r ≡ encoded (said a)
   says-count n e h = h ∙ sym (ap (λ (x : Answer). encoded (said x)) e)
 
-  pub says-at : (s : Stamp) (n : ℕ) → a ≡ At s n → r ≡ kv 0 2 (s .0) n 0 → r ≡ encoded (said a)
+  pub says-at : (s : Stamp) (n : Row) → a ≡ At s n → r ≡ kv 0 2 (s .0) (n .0) 0 → r ≡ encoded (said a)
   says-at s n e h = h ∙ sym (ap (λ (x : Answer). encoded (said x)) e)
 
   pub says-read : (x : Standing) → a ≡ Read x → r ≡ readNumbers (standingOf x) → r ≡ encoded (said a)

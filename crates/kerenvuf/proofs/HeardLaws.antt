@@ -19,34 +19,34 @@ use Rattle.tables.proofs.Facts.{parts, clock-limits}
 use Rattle.tables.proofs.Means.{values-means}
 use Rattle.history.specs.Version.{slotSeen}
 use Rattle.history.proofs.Meets.{seen-used}
-use Rattle.reading.proofs.QueryRows.{accepted}
+use Rattle.calls.proofs.Serving.{accepted}
 use Rattle.calls.specs.Said.{no, numbers, value, words}
 use Rattle.calls.specs.Outcome.{Outcome, unless, refusalAt, refusalOfCreate}
 use Rattle.calls.specs.Calls.{own, beginning, columnOf, createOf, beginOf, readOf, updateOf, deleteOf, insertOf, commitOf, tidyOf, abortOf}
-use Rattle.calls.specs.Query.{QueryOutcome, flipsSeen, asked, unlessAsked, queryOf}
-use Rattle.kerenvuf.specs.Heard.{placeNumber, heard, Kept, AllHeard}
+use Rattle.calls.specs.Query.{flipsSeen, asked, queryOf}
+use Rattle.kerenvuf.specs.Heard.{placeNumber, decoded, Kept, AllHeard}
 use Rattle.kerenvuf.specs.Picked.{placeNamed}
 
 -- ---- each case
 no-kept : (n : ℕ) → Kept (no n)
-unfolding heard
+unfolding decoded
 no-kept n = refl
 
 count-kept : (n : ℕ) → Kept (numbers (n ∷ []))
-unfolding heard
+unfolding decoded
 count-kept n = refl
 
 stamp-kept : (s n : ℕ) → Kept (numbers (s ∷ n ∷ []))
-unfolding heard
+unfolding decoded
 stamp-kept s n = refl
 
 value-kept : (x : Option ℕ) → Kept (value x)
-unfolding heard
+unfolding decoded
 value-kept (some v) = refl
 value-kept none = refl
 
 scratch-kept : (n : ℕ) (due : Bool) → Kept (words n due none)
-unfolding heard placeNamed
+unfolding decoded placeNamed
 scratch-kept n true = refl
 scratch-kept n false = refl
 
@@ -58,15 +58,15 @@ slot-again i l =
     ∙ ap (λ (b : Bool). cond b none (some (i + 1 - 1))) (ne-eqb (i + 1) 0 (λ e. absurd (omega (arith, e)))) ∙ ap some back
 
 slot-kept : (n : ℕ) (due : Bool) (i : ℕ) → i < 96 → Kept (words n due (some i))
-unfolding heard
+unfolding decoded
 slot-kept n true i l = ap (words n true) (slot-again i l)
 slot-kept n false i l = ap (words n false) (slot-again i l)
 
 -- ---- a call that refuses, or comes to this
-unless-kept : (w : Option ℕ) (t : Tables) (o : Outcome) → Kept (o .answer) → Kept (unless w t o .answer)
+unless-kept : (w : Option ℕ) (t : Tables) (bs : List (List ℕ)) (o : Outcome) → (w ≡ none → Kept (o .answer)) → Kept (unless w t bs o .answer)
 unfolding unless
-unless-kept (some n) t o k = no-kept n
-unless-kept none t o k = k
+unless-kept (some n) t bs o k = no-kept n
+unless-kept none t bs o k = k refl
 
 two-kept : (b : Bool) (o p : Outcome) → Kept (o .answer) → Kept (p .answer) → Kept (cond b o p .answer)
 two-kept true o p h k = h
@@ -74,39 +74,39 @@ two-kept false o p h k = k
 
 begin-kept : (t : Tables) (n : ℕ) → Kept (beginOf t n .answer)
 unfolding beginOf beginning
-begin-kept t n = unless-kept (refusalAt t (begin n)) t _ (two-kept (eqb (own t n .live) 1) _ _ (stamp-kept _ _) (stamp-kept _ _))
+begin-kept t n = unless-kept (refusalAt t (begin n)) t [] _ (λ e. two-kept (eqb (own t n .live) 1) _ _ (stamp-kept _ _) (stamp-kept _ _))
 
 create-kept : (t : Tables) (c : ℕ) (column : List ℕ) → Kept (createOf t c column .answer)
 unfolding createOf
-create-kept t c column = unless-kept (refusalOfCreate t (create c (columnOf column))) t _ (count-kept (length column))
+create-kept t c column = unless-kept (refusalOfCreate t (create c (columnOf column))) t [] _ (λ e. count-kept (length column))
 
 read-kept : (t : Tables) (n row : ℕ) → Kept (readOf t n row .answer)
 unfolding readOf
-read-kept t n row = unless-kept (refusalAt t (read n row)) t _ (value-kept _)
+read-kept t n row = unless-kept (refusalAt t (read n row)) t [] _ (λ e. value-kept _)
 
 update-kept : (t : Tables) (n row v : ℕ) → Kept (updateOf t n row v .answer)
 unfolding updateOf
-update-kept t n row v = unless-kept (refusalAt t (update n row v)) t _ (count-kept _)
+update-kept t n row v = unless-kept (refusalAt t (update n row v)) t [] _ (λ e. count-kept _)
 
 delete-kept : (t : Tables) (n row : ℕ) → Kept (deleteOf t n row .answer)
 unfolding deleteOf
-delete-kept t n row = unless-kept (refusalAt t (delete n row)) t _ (count-kept _)
+delete-kept t n row = unless-kept (refusalAt t (delete n row)) t [] _ (λ e. count-kept _)
 
 insert-kept : (t : Tables) (n v : ℕ) → Kept (insertOf t n v .answer)
 unfolding insertOf
-insert-kept t n v = unless-kept (refusalAt t (insert n v)) t _ (count-kept _)
+insert-kept t n v = unless-kept (refusalAt t (insert n v)) t [] _ (λ e. count-kept _)
 
 commit-kept : (t : Tables) (n : ℕ) → Kept (commitOf t n .answer)
 unfolding commitOf
-commit-kept t n = unless-kept (refusalAt t (commit n)) t _ (stamp-kept _ _)
+commit-kept t n = unless-kept (refusalAt t (commit n)) t [] _ (λ e. stamp-kept _ _)
 
 tidy-kept : (t : Tables) (n v : ℕ) → Kept (tidyOf t n v .answer)
 unfolding tidyOf
-tidy-kept t n v = unless-kept (refusalAt t (tidy n v)) t _ (stamp-kept _ _)
+tidy-kept t n v = unless-kept (refusalAt t (tidy n v)) t [] _ (λ e. stamp-kept _ _)
 
 abort-kept : (t : Tables) (n : ℕ) → Kept (abortOf t n .answer)
 unfolding abortOf
-abort-kept t n = unless-kept (refusalAt t (abort n)) t _ (count-kept _)
+abort-kept t n = unless-kept (refusalAt t (abort n)) t [] _ (λ e. count-kept _)
 
 -- ---- query: the slot that an accepted query names is one of the 96
 slot-low : (t : Tables) (n v threshold length s : ℕ) → refusalAt t (query n v threshold length) ≡ none → slotSeen (t .slots) (t .heads) s v < 96
@@ -117,10 +117,6 @@ slot-low t n v threshold length s e =
     let below : v < valuesIn (t .clock) = omega (arith, l, values-means t) in
     omega (arith, seen-used t (yes .1) s v below, clock-limits (t .clock) (parts t (yes .1) .clock-fits) .few-slots)
 
-asked-kept : (b : Bool) (o p : QueryOutcome) → Kept (o .answer) → Kept (p .answer) → Kept (cond b o p .answer)
-asked-kept true o p h k = h
-asked-kept false o p h k = k
-
 module _ (t : Tables) (scratch : List ℕ) (n v threshold : ℕ) where
   abbrev start : ℕ
   start = startOf (session (meaning t) n)
@@ -128,17 +124,13 @@ module _ (t : Tables) (scratch : List ℕ) (n v threshold : ℕ) where
   answered : refusalAt t (query n v threshold (length scratch)) ≡ none → Kept (asked t scratch start v threshold .answer)
   unfolding asked
   answered e =
-      asked-kept (eqb (flipsSeen t start v) 0) _ _
+      two-kept (eqb (flipsSeen t start v) 0) _ _
       (slot-kept 0 false (slotSeen (t .slots) (t .heads) start v) (slot-low t n v threshold (length scratch) start e))
       (scratch-kept (flipsSeen t start v) (ltb threshold (flipsSeen t start v)))
 
   query-kept : Kept (queryOf t scratch n v threshold .answer)
-  unfolding queryOf unlessAsked
-  query-kept = go (refusalAt t (query n v threshold (length scratch))) refl
-    where
-      go : (w : Option ℕ) → refusalAt t (query n v threshold (length scratch)) ≡ w → Kept (unlessAsked w t scratch (asked t scratch start v threshold) .answer)
-      go (some k) e = no-kept k
-      go none e = answered e
+  unfolding queryOf
+  query-kept = unless-kept (refusalAt t (query n v threshold (length scratch))) t (scratch ∷ []) _ answered
 
 pub all-heard : AllHeard
 all-heard = record {

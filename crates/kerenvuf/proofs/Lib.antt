@@ -3,6 +3,4 @@
 pub mod AnswerLaws
 pub mod HeardLaws
 pub mod PickedLaws
-pub mod KvNumbers
 pub mod Exported
-pub mod ExportedScratch

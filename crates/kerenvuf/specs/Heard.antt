@@ -9,7 +9,7 @@ use lib.Dec.{eqb, ltb}
 use Rattle.tables.specs.Cells.{Tables}
 use Rattle.calls.specs.Said.{Said, no, numbers, value, words}
 use Rattle.calls.specs.Outcome.{Outcome}
-use Rattle.calls.specs.Query.{QueryOutcome, queryOf}
+use Rattle.calls.specs.Query.{queryOf}
 use Rattle.calls.specs.Calls.{createOf, beginOf, readOf, updateOf, deleteOf, insertOf, commitOf, tidyOf, abortOf}
 use Rattle.kerenvuf.specs.declared.answers.KvAnswer.{KvAnswer}
 use Rattle.kerenvuf.specs.Picked.{placeNamed}
@@ -40,8 +40,8 @@ encoded (value x) = readNumbers x
 encoded (words n due place) = kv 0 5 n (bitOf due) (placeNumber place)
 
 -- what the numbers say to whoever reads them by their kind
-unfoldable pub heard : KvAnswer → Said
-heard x =
+unfoldable pub decoded : KvAnswer → Said
+decoded x =
     cond (eqb (x .kind) 0) (no (x .refusal))
     (cond (eqb (x .kind) 1) (numbers (x .a ∷ []))
     (cond (eqb (x .kind) 2) (numbers (x .a ∷ x .b ∷ []))
@@ -49,33 +49,22 @@ heard x =
     (cond (eqb (x .kind) 4) (value none)
     (words (x .a) (eqb (x .b) 1) (placeNamed (x .c)))))))
 
--- what C sees of a call: the tables afterwards, and the numbers of the answer
+-- what C sees of a call: the tables and the further lent buffers afterwards, and the numbers of the answer
 pub record Seen : Type 0 where
   pub after : Tables
+  pub buffers : List (List ℕ)
   pub answer : KvAnswer
 
-abbrev pub seen : Tables → KvAnswer → Seen
-seen t a = record { after = t; answer = a }
+abbrev pub seen : Tables → List (List ℕ) → KvAnswer → Seen
+seen t bs a = record { after = t; buffers = bs; answer = a }
 
 -- what it sees of what a call comes to
 abbrev pub told : Outcome → Seen
-told o = seen (o .after) (encoded (o .answer))
-
--- the same of query, with the scratch
-pub record SeenAsked : Type 0 where
-  pub after : Tables
-  pub scratch : List ℕ
-  pub answer : KvAnswer
-
-abbrev pub seenAsked : Tables → List ℕ → KvAnswer → SeenAsked
-seenAsked t scratch a = record { after = t; scratch = scratch; answer = a }
-
-abbrev pub toldAsked : QueryOutcome → SeenAsked
-toldAsked o = seenAsked (o .after) (o .scratch) (encoded (o .answer))
+told o = seen (o .after) (o .buffers) (encoded (o .answer))
 
 -- nothing is lost in the numbers: of what a call says they say the same
 abbrev pub Kept : Said → Type 0
-Kept s = heard (encoded s) ≡ s
+Kept s = decoded (encoded s) ≡ s
 
 -- at any tables
 pub record AllHeard : Type 0 where

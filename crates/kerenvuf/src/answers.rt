@@ -73,7 +73,7 @@ pub fn numbers(answer: Answer) -> KvAnswer
     match answer {
         Answer::No(why) => kv_of(tables::number(why), 0, 0, 0, 0),
         Answer::Count(n) => kv_of(0, 1, n, 0, 0),
-        Answer::At(s, n) => kv_of(0, 2, s.0, n, 0),
+        Answer::At(s, n) => kv_of(0, 2, s.0, n.0, 0),
         Answer::Read(x) => read_numbers(x),
         Answer::Listed(n, due, place) => kv_of(0, 5, n, bit_of(due), place_number(place)),
     }

@@ -4,10 +4,11 @@ use crate::answers::KvAnswer;
 use crate::answers::numbers;
 use tables::Session;
 ghost use mathlib.Core.Path.{_≡_};
+ghost use mathlib.Core.List.{[], _∷_};
 ghost use Rattle.tables.specs.Cells.{tables};
 ghost use Rattle.calls.specs.Calls.{createOf, beginOf, readOf, updateOf, deleteOf, insertOf, commitOf, tidyOf, abortOf};
 ghost use Rattle.calls.specs.Query.{queryOf};
-ghost use Rattle.kerenvuf.specs.Heard.{seen, told, seenAsked, toldAsked};
+ghost use Rattle.kerenvuf.specs.Heard.{seen, told};
 
 // Create: the row count.
 #[no_mangle]
@@ -22,7 +23,7 @@ pub extern "C" fn kv_create(
     c: u64,
     column: &[u8],
 ) -> KvAnswer
-    ensures { λ r. ⌜ seen (tables (now (clock .exit)) (now (slots .exit)) (now (words .exit)) (now (heads .exit)) (now (log .exit)) (now (changes .exit)) (now (sessions .exit))) r ≡ told (createOf (tables (now (clock .entry)) (now (slots .entry)) (now (words .entry)) (now (heads .entry)) (now (log .entry)) (now (changes .entry)) (now (sessions .entry))) c (now (column .entry))) ⌝ }
+    ensures { λ r. ⌜ seen (tables (now (clock .exit)) (now (slots .exit)) (now (words .exit)) (now (heads .exit)) (now (log .exit)) (now (changes .exit)) (now (sessions .exit))) [] r ≡ told (createOf (tables (now (clock .entry)) (now (slots .entry)) (now (words .entry)) (now (heads .entry)) (now (log .entry)) (now (changes .entry)) (now (sessions .entry))) c (now (column .entry))) ⌝ }
 {
     let answer = index::create(
         clock,
@@ -50,7 +51,7 @@ pub extern "C" fn kv_begin(
     sessions: &mut [Session],
     n: u64,
 ) -> KvAnswer
-    ensures { λ r. ⌜ seen (tables (now (clock .exit)) (now (slots .exit)) (now (words .exit)) (now (heads .exit)) (now (log .exit)) (now (changes .exit)) (now (sessions .exit))) r ≡ told (beginOf (tables (now (clock .entry)) (now (slots .entry)) (now (words .entry)) (now (heads .entry)) (now (log .entry)) (now (changes .entry)) (now (sessions .entry))) n) ⌝ }
+    ensures { λ r. ⌜ seen (tables (now (clock .exit)) (now (slots .exit)) (now (words .exit)) (now (heads .exit)) (now (log .exit)) (now (changes .exit)) (now (sessions .exit))) [] r ≡ told (beginOf (tables (now (clock .entry)) (now (slots .entry)) (now (words .entry)) (now (heads .entry)) (now (log .entry)) (now (changes .entry)) (now (sessions .entry))) n) ⌝ }
 {
     let answer = index::begin(clock, slots, words, heads, log, changes, sessions, n);
     numbers(answer)
@@ -71,7 +72,7 @@ pub extern "C" fn kv_query(
     v: u64,
     threshold: u64,
 ) -> KvAnswer
-    ensures { λ r. ⌜ seenAsked (tables (now (clock .exit)) (now (slots .exit)) (now (words .exit)) (now (heads .exit)) (now (log .exit)) (now (changes .exit)) (now (sessions .exit))) (now (scratch .exit)) r ≡ toldAsked (queryOf (tables (now (clock .entry)) (now (slots .entry)) (now (words .entry)) (now (heads .entry)) (now (log .entry)) (now (changes .entry)) (now (sessions .entry))) (now (scratch .entry)) n v threshold) ⌝ }
+    ensures { λ r. ⌜ seen (tables (now (clock .exit)) (now (slots .exit)) (now (words .exit)) (now (heads .exit)) (now (log .exit)) (now (changes .exit)) (now (sessions .exit))) (now (scratch .exit) ∷ []) r ≡ told (queryOf (tables (now (clock .entry)) (now (slots .entry)) (now (words .entry)) (now (heads .entry)) (now (log .entry)) (now (changes .entry)) (now (sessions .entry))) (now (scratch .entry)) n v threshold) ⌝ }
 {
     let answer = index::query(
         clock,
@@ -102,7 +103,7 @@ pub extern "C" fn kv_read(
     n: u64,
     row: u64,
 ) -> KvAnswer
-    ensures { λ r. ⌜ seen (tables (now (clock .exit)) (now (slots .exit)) (now (words .exit)) (now (heads .exit)) (now (log .exit)) (now (changes .exit)) (now (sessions .exit))) r ≡ told (readOf (tables (now (clock .entry)) (now (slots .entry)) (now (words .entry)) (now (heads .entry)) (now (log .entry)) (now (changes .entry)) (now (sessions .entry))) n row) ⌝ }
+    ensures { λ r. ⌜ seen (tables (now (clock .exit)) (now (slots .exit)) (now (words .exit)) (now (heads .exit)) (now (log .exit)) (now (changes .exit)) (now (sessions .exit))) [] r ≡ told (readOf (tables (now (clock .entry)) (now (slots .entry)) (now (words .entry)) (now (heads .entry)) (now (log .entry)) (now (changes .entry)) (now (sessions .entry))) n row) ⌝ }
 {
     let answer = index::read(clock, slots, words, heads, log, changes, sessions, n, row);
     numbers(answer)
@@ -122,7 +123,7 @@ pub extern "C" fn kv_update(
     row: u64,
     v: u64,
 ) -> KvAnswer
-    ensures { λ r. ⌜ seen (tables (now (clock .exit)) (now (slots .exit)) (now (words .exit)) (now (heads .exit)) (now (log .exit)) (now (changes .exit)) (now (sessions .exit))) r ≡ told (updateOf (tables (now (clock .entry)) (now (slots .entry)) (now (words .entry)) (now (heads .entry)) (now (log .entry)) (now (changes .entry)) (now (sessions .entry))) n row v) ⌝ }
+    ensures { λ r. ⌜ seen (tables (now (clock .exit)) (now (slots .exit)) (now (words .exit)) (now (heads .exit)) (now (log .exit)) (now (changes .exit)) (now (sessions .exit))) [] r ≡ told (updateOf (tables (now (clock .entry)) (now (slots .entry)) (now (words .entry)) (now (heads .entry)) (now (log .entry)) (now (changes .entry)) (now (sessions .entry))) n row v) ⌝ }
 {
     let answer = index::update(
         clock,
@@ -152,7 +153,7 @@ pub extern "C" fn kv_delete(
     n: u64,
     row: u64,
 ) -> KvAnswer
-    ensures { λ r. ⌜ seen (tables (now (clock .exit)) (now (slots .exit)) (now (words .exit)) (now (heads .exit)) (now (log .exit)) (now (changes .exit)) (now (sessions .exit))) r ≡ told (deleteOf (tables (now (clock .entry)) (now (slots .entry)) (now (words .entry)) (now (heads .entry)) (now (log .entry)) (now (changes .entry)) (now (sessions .entry))) n row) ⌝ }
+    ensures { λ r. ⌜ seen (tables (now (clock .exit)) (now (slots .exit)) (now (words .exit)) (now (heads .exit)) (now (log .exit)) (now (changes .exit)) (now (sessions .exit))) [] r ≡ told (deleteOf (tables (now (clock .entry)) (now (slots .entry)) (now (words .entry)) (now (heads .entry)) (now (log .entry)) (now (changes .entry)) (now (sessions .entry))) n row) ⌝ }
 {
     let answer = index::delete(clock, slots, words, heads, log, changes, sessions, n, row);
     numbers(answer)
@@ -171,7 +172,7 @@ pub extern "C" fn kv_insert(
     n: u64,
     v: u64,
 ) -> KvAnswer
-    ensures { λ r. ⌜ seen (tables (now (clock .exit)) (now (slots .exit)) (now (words .exit)) (now (heads .exit)) (now (log .exit)) (now (changes .exit)) (now (sessions .exit))) r ≡ told (insertOf (tables (now (clock .entry)) (now (slots .entry)) (now (words .entry)) (now (heads .entry)) (now (log .entry)) (now (changes .entry)) (now (sessions .entry))) n v) ⌝ }
+    ensures { λ r. ⌜ seen (tables (now (clock .exit)) (now (slots .exit)) (now (words .exit)) (now (heads .exit)) (now (log .exit)) (now (changes .exit)) (now (sessions .exit))) [] r ≡ told (insertOf (tables (now (clock .entry)) (now (slots .entry)) (now (words .entry)) (now (heads .entry)) (now (log .entry)) (now (changes .entry)) (now (sessions .entry))) n v) ⌝ }
 {
     let answer = index::insert(clock, slots, words, heads, log, changes, sessions, n, v);
     numbers(answer)
@@ -189,7 +190,7 @@ pub extern "C" fn kv_commit(
     sessions: &mut [Session],
     n: u64,
 ) -> KvAnswer
-    ensures { λ r. ⌜ seen (tables (now (clock .exit)) (now (slots .exit)) (now (words .exit)) (now (heads .exit)) (now (log .exit)) (now (changes .exit)) (now (sessions .exit))) r ≡ told (commitOf (tables (now (clock .entry)) (now (slots .entry)) (now (words .entry)) (now (heads .entry)) (now (log .entry)) (now (changes .entry)) (now (sessions .entry))) n) ⌝ }
+    ensures { λ r. ⌜ seen (tables (now (clock .exit)) (now (slots .exit)) (now (words .exit)) (now (heads .exit)) (now (log .exit)) (now (changes .exit)) (now (sessions .exit))) [] r ≡ told (commitOf (tables (now (clock .entry)) (now (slots .entry)) (now (words .entry)) (now (heads .entry)) (now (log .entry)) (now (changes .entry)) (now (sessions .entry))) n) ⌝ }
 {
     let answer = index::commit(clock, slots, words, heads, log, changes, sessions, n);
     numbers(answer)
@@ -208,7 +209,7 @@ pub extern "C" fn kv_tidy(
     n: u64,
     v: u64,
 ) -> KvAnswer
-    ensures { λ r. ⌜ seen (tables (now (clock .exit)) (now (slots .exit)) (now (words .exit)) (now (heads .exit)) (now (log .exit)) (now (changes .exit)) (now (sessions .exit))) r ≡ told (tidyOf (tables (now (clock .entry)) (now (slots .entry)) (now (words .entry)) (now (heads .entry)) (now (log .entry)) (now (changes .entry)) (now (sessions .entry))) n v) ⌝ }
+    ensures { λ r. ⌜ seen (tables (now (clock .exit)) (now (slots .exit)) (now (words .exit)) (now (heads .exit)) (now (log .exit)) (now (changes .exit)) (now (sessions .exit))) [] r ≡ told (tidyOf (tables (now (clock .entry)) (now (slots .entry)) (now (words .entry)) (now (heads .entry)) (now (log .entry)) (now (changes .entry)) (now (sessions .entry))) n v) ⌝ }
 {
     let answer = index::tidy(clock, slots, words, heads, log, changes, sessions, n, v);
     numbers(answer)
@@ -226,7 +227,7 @@ pub extern "C" fn kv_abort(
     sessions: &mut [Session],
     n: u64,
 ) -> KvAnswer
-    ensures { λ r. ⌜ seen (tables (now (clock .exit)) (now (slots .exit)) (now (words .exit)) (now (heads .exit)) (now (log .exit)) (now (changes .exit)) (now (sessions .exit))) r ≡ told (abortOf (tables (now (clock .entry)) (now (slots .entry)) (now (words .entry)) (now (heads .entry)) (now (log .entry)) (now (changes .entry)) (now (sessions .entry))) n) ⌝ }
+    ensures { λ r. ⌜ seen (tables (now (clock .exit)) (now (slots .exit)) (now (words .exit)) (now (heads .exit)) (now (log .exit)) (now (changes .exit)) (now (sessions .exit))) [] r ≡ told (abortOf (tables (now (clock .entry)) (now (slots .entry)) (now (words .entry)) (now (heads .entry)) (now (log .entry)) (now (changes .entry)) (now (sessions .entry))) n) ⌝ }
 {
     let answer = index::abort(clock, slots, words, heads, log, changes, sessions, n);
     numbers(answer)

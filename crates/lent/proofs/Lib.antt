@@ -6,5 +6,8 @@ pub mod Walks
 pub mod Rules
 pub mod Types
 pub mod Lends
-pub mod Numbers
-pub mod Outer
+pub mod Locals
+pub mod Slices
+pub mod Lent
+pub mod Passes
+pub mod Through

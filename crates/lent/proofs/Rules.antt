@@ -85,11 +85,11 @@ module _ {M : Type 1} {𝓤 : URA M} where
   tokens (suc n) κs qs = ‵ (flft (κs .0) (qs .0)) ⊛ tokens n (κs .1) (qs .1)
 
 module _ {M : Type 1} (𝓤 : URA M) (H : Heap 𝓤) (A : Atoms 𝓤) where
-  tokens-in : (n : ℕ) (κs : Lfts n) (qs : Shares n) → ent 𝓤 (mean 𝓤 H A (tokens n κs qs)) (toks 𝓤 A n κs qs)
+  pub tokens-in : (n : ℕ) (κs : Lfts n) (qs : Shares n) → ent 𝓤 (mean 𝓤 H A (tokens n κs qs)) (toks 𝓤 A n κs qs)
   tokens-in zero κs qs = id⊢ 𝓤 (emp 𝓤)
   tokens-in (suc n) κs qs = monoR 𝓤 (A .lft (κs .0) (qs .0)) (tokens-in n (κs .1) (qs .1))
 
-  tokens-out : (n : ℕ) (κs : Lfts n) (qs : Shares n) → ent 𝓤 (toks 𝓤 A n κs qs) (mean 𝓤 H A (tokens n κs qs))
+  pub tokens-out : (n : ℕ) (κs : Lfts n) (qs : Shares n) → ent 𝓤 (toks 𝓤 A n κs qs) (mean 𝓤 H A (tokens n κs qs))
   tokens-out zero κs qs = id⊢ 𝓤 (emp 𝓤)
   tokens-out (suc n) κs qs = monoR 𝓤 (A .lft (κs .0) (qs .0)) (tokens-out n (κs .1) (qs .1))
 
@@ -110,7 +110,7 @@ module _ {M : Type 1} {𝓤 : URA M} {H : Heap 𝓤} {A : Atoms 𝓤} {K : Type 
   bares t (suc k) = step (λ s. bares t k $ nothing t $ fjoin t $ s)
 
 -- a part of an entry that is known to be i
-part-at : {M : Type 1} {𝓤 : URA M} {H : Heap 𝓤} {A : Atoms 𝓤} {K : Type 0} {W : Given 𝓤 H A} {i j : Item 𝓤} {q : Share} {τ : Ty} {b o : ℕ} {v : Val} {back : Val → Item 𝓤} → K → j ≡ i → Part K W i q τ b o v back → Part K W j q τ b o v back
+pub part-at : {M : Type 1} {𝓤 : URA M} {H : Heap 𝓤} {A : Atoms 𝓤} {K : Type 0} {W : Given 𝓤 H A} {i j : Item 𝓤} {q : Share} {τ : Ty} {b o : ℕ} {v : Val} {back : Val → Item 𝓤} → K → j ≡ i → Part K W i q τ b o v back → Part K W j q τ b o v back
 part-at {𝓤 = 𝓤} {K = K} {W = W} {q = q} {τ = τ} {b = b} {o = o} {v = v} {back = back} t e p = subst (λ (k : Item 𝓤). Part K W k q τ b o v back) (sym e) p
 
 module _ {M : Type 1} {𝓤 : URA M} {H : Heap 𝓤} {A : Atoms 𝓤} {K : Type 0} {W : Given 𝓤 H A} {Γ : List (Item 𝓤)} {E : Env 𝓤 H} where

@@ -2,6 +2,8 @@
 -- Assumes nothing.
 use Rattle.tables.proofs.clock.Clock as C
 use Rattle.tables.proofs.clock.Clock.Laws as CL
+use Rattle.tables.proofs.counts.Stamp as T
+use Rattle.tables.proofs.counts.Stamp.Laws as TL
 use Rattle.tables.proofs.counts.Row as N
 use Rattle.tables.proofs.counts.Row.Laws as NL
 use Rattle.tables.proofs.session.Session as S
@@ -12,6 +14,9 @@ use Rattle.lent.proofs.Data.{Data, struct}
 
 abbrev pub clock : Data
 clock = struct C.the-type CL.the-laws CL.the-plain CL.the-copy
+
+abbrev pub stamp : Data
+stamp = struct T.the-type TL.the-laws TL.the-plain TL.the-copy
 
 abbrev pub row : Data
 row = struct N.the-type NL.the-laws NL.the-plain NL.the-copy

@@ -11,6 +11,8 @@ pub use seats::seat_of;
 pub use sessions::all_fit;
 pub use sessions::free;
 pub use sessions::free_all;
+pub use sessions::open;
 pub use sessions::place;
 pub use sessions::places;
 pub use sessions::put;
+pub use sessions::put_at;

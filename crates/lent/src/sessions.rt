@@ -1,12 +1,13 @@
 // The session table: a lent slice of session structs, of which the first 16 places are in use. Assumes nothing.
 use tables::Clock;
+use tables::Row;
 use tables::Session;
+use tables::Stamp;
 ghost use mathlib.Core.Path.{_≡_};
 ghost use mathlib.Core.Bool.{_&&_, cond};
 ghost use lib.Dec.{ltb};
 ghost use lib.ListN.{length};
-ghost use Rattle.tables.specs.Sessions.{freed};
-ghost use Rattle.lent.specs.Places.{seatAt, putAt, freedAll};
+ghost use Rattle.lent.specs.Places.{seatAt, putAt, listedBack, openedAt, freedAt, allFreed};
 ghost use Rattle.lent.specs.Seats.{allFit};
 
 // How many places the slice has.
@@ -35,7 +36,7 @@ pub fn place(t: &[Session], n: u64) -> Session
 }
 
 // A session is put at place i; where i is no place, nothing changes.
-pub fn put(t: &mut [Session], i: usize, s: Session)
+pub fn put_at(t: &mut [Session], s: Session, i: usize)
     ensures { λ _. ⌜ now (t .exit) ≡ putAt (now (t .entry)) i s ⌝ }
 {
     if within(i, t.len()) {
@@ -43,12 +44,38 @@ pub fn put(t: &mut [Session], i: usize, s: Session)
     }
 }
 
-// The session at place i is freed.
-pub fn free(t: &mut [Session], i: usize)
-    ensures { λ _. ⌜ now (t .exit) ≡ putAt (now (t .entry)) i freed ⌝ }
+// The place that is meant: n, or none.
+fn place_meant(n: u64, yes: bool) -> usize
+    ensures { λ r. ⌜ r ≡ cond yes n 16 ⌝ }
+{
+    if yes {
+        return n as usize;
+    }
+    16
+}
+
+// A session is put at place n, where asked to.
+pub fn put(t: &mut [Session], n: u64, yes: bool, s: Session)
+    ensures { λ _. ⌜ now (t .exit) ≡ listedBack (now (t .entry)) n yes s ⌝ }
+{
+    let i = place_meant(n, yes);
+    put_at(t, s, i);
+}
+
+// The session at place n is opened, where asked to.
+pub fn open(t: &mut [Session], n: u64, yes: bool, start: Stamp, rows: Row)
+    ensures { λ _. ⌜ now (t .exit) ≡ openedAt (now (t .entry)) n yes start rows ⌝ }
+{
+    let s = tables::opened_session(start, rows);
+    put(t, n, yes, s);
+}
+
+// The session at place n is freed, where asked to.
+pub fn free(t: &mut [Session], n: u64, yes: bool)
+    ensures { λ _. ⌜ now (t .exit) ≡ freedAt (now (t .entry)) n yes ⌝ }
 {
     let s = tables::free_session();
-    put(t, i, s);
+    put(t, n, yes, s);
 }
 
 // How many places a loop goes through: all 16, or none.
@@ -63,13 +90,12 @@ fn limit(yes: bool) -> usize
 
 // Every place is freed, where asked to.
 pub fn free_all(t: &mut [Session], yes: bool)
-    ensures { λ _. ⌜ now (t .exit) ≡ cond yes (freedAll (now (t .entry))) (now (t .entry)) ⌝ }
+    ensures { λ _. ⌜ now (t .exit) ≡ allFreed (now (t .entry)) yes ⌝ }
 {
-    let end = limit(yes);
-    let mut i = 0;
-    while i < end {
-        free(t, i);
-        i += 1;
+    let mut n = 0;
+    while n < 16 {
+        free(t, n, yes);
+        n += 1;
     }
 }
 

@@ -1,40 +1,18 @@
--- `read` meets its contract: it is an instance of `Through.antt`, at `read_at`.
+-- `read` meets its contract: it is an instance of the walk of the outer calls, at `read_at`.
 -- Assumes nothing.
-use mathlib.Core.Path.{_≡_, refl}
-use denote.Triple.Table.{cited}
-use Rattle.tables.specs.Cells.{tables}
-use Rattle.lent.proofs.Outer.{SeatOf, Put}
-use Rattle.lent.proofs.seat_of.Symbol as seat-def
-use Rattle.lent.proofs.seat_of.Symbol.{name as #lent·seat-of}
-use Rattle.lent.proofs.seat_of.Met as seat-thm
-use Rattle.lent.proofs.put.Symbol as put-def
-use Rattle.lent.proofs.put.Symbol.{name as #lent·put}
-use Rattle.lent.proofs.put.Met as put-thm
-use Rattle.calls.specs.Said.{said}
-use Rattle.calls.specs.Outcome.{outcome}
-use Rattle.calls.specs.Calls.{readOf}
-use Rattle.calls.specs.Seats.{Serves}
-use Rattle.index.proofs.Through.{Says, CSays, Gives, Core, through}
+use Rattle.index.proofs.Calls.{seat, watched, the-answer, on-tables, past, reads, untouched, Seats, Comes-to, Serving, tail}
+use Rattle.index.proofs.Calls.{seat-name, seat-routine, seat-met}
 use Rattle.index.proofs.cores.read_at.Symbol as core-def
-use Rattle.index.proofs.cores.read_at.Symbol.{name as #index·read-at}
 use Rattle.index.proofs.cores.read_at.Met as core-thm
 use Rattle.index.proofs.outer.read.Key.{name as #index·read}
 use Rattle.index.proofs.outer.read.Statement as stated
 use Rattle.index.proofs.outer.read.Code as code
 
-abbrev Ens : Says 1
-Ens ys0 ys1 ys2 ys3 ys4 ys5 ts n ns r zs0 zs1 zs2 zs3 zs4 zs5 us = outcome (tables zs0 zs1 zs2 zs3 zs4 zs5 us) (said r) ≡ readOf (tables ys0 ys1 ys2 ys3 ys4 ys5 ts) n (ns .0)
-
-abbrev CEns : CSays 1
-CEns ys0 ys1 ys2 ys3 ys4 ys5 s n ns d zs0 zs1 zs2 zs3 zs4 zs5 = Serves (tables ys0 ys1 ys2 ys3 ys4 ys5) (tables zs0 zs1 zs2 zs3 zs4 zs5) (λ t. readOf t n (ns .0)) s n d
-
-gives : Gives 1 CEns Ens
-gives ys0 ys1 ys2 ys3 ys4 ys5 ts n ns d zs0 zs1 zs2 zs3 zs4 zs5 h = h ts refl
-
 pub read-spec : {M : Type 1} → stated.statement M
 unfolding code.routine
 read-spec 𝓤 H 𝓜 𝓖 𝓡 =
-    through 𝓤 H 𝓜 𝓖 𝓡 1 Ens CEns gives #index·read-at code.env #index·read (code.unfolded 𝓤 H 𝓜 𝓡)
-    (cited 𝓤 H (SeatOf 𝓤 H (𝓖 .A) (𝓜 .mem) (𝓡 .run)) 𝓜 𝓡 code.env #lent·seat-of seat-def.routine code.calls-lent·seat-of (seat-thm.met 𝓤 H 𝓜 𝓖 𝓡))
-    (cited 𝓤 H (Core 𝓤 H (𝓖 .A) 1 CEns) 𝓜 𝓡 code.env #index·read-at core-def.routine code.calls-index·cores·read-at (core-thm.met 𝓤 H 𝓜 𝓖 𝓡))
-    (cited 𝓤 H (Put 𝓤 H (𝓖 .A) (𝓜 .mem) (𝓡 .run)) 𝓜 𝓡 code.env #lent·put put-def.routine code.calls-lent·put (put-thm.met 𝓤 H 𝓜 𝓖 𝓡))
+    tail (on-tables watched (reads .more)) seat the-answer (Seats reads) (Serving reads the-answer (λ a n. untouched) (λ a. a))
+    (Comes-to watched reads) (λ y s a e r b h. h (past y .0) e)
+    𝓤 H 𝓜 𝓖 𝓡 code.env #index·read (record { name = seat-name; routine = seat-routine; met = seat-met })
+    (record { name = core-def.name; routine = core-def.routine; met = core-thm.met })
+    (code.unfolded 𝓤 H 𝓜 𝓡) code.calls-lent·seat-of code.calls-index·cores·read-at

@@ -1,37 +1,19 @@
--- `exports::kv_begin` meets its contract: it is an instance of `Exported.antt`, at the index's `begin`.
+-- `exports::kv_begin` meets its contract: it is an instance of the walk of the exports, at the index's `begin`.
 -- Assumes nothing.
-use mathlib.Core.Path.{_≡_, ap}
-use denote.Triple.Table.{cited}
-use Rattle.tables.specs.Cells.{tables}
-use Rattle.calls.specs.Said.{said}
-use Rattle.calls.specs.Outcome.{outcome}
-use Rattle.calls.specs.Calls.{beginOf}
-use Rattle.index.proofs.Through as call
+use Rattle.kerenvuf.proofs.Exported.{watched, the-answer, the-numbers, on-tables, tabs, past, Comes-to, Numbered, Seen-of, encodes}
+use Rattle.kerenvuf.proofs.Exported.{then, numbers-name, numbers-routine, numbers-met}
+use Rattle.index.proofs.Calls.{begins}
 use Rattle.index.proofs.begin.Symbol as call-def
-use Rattle.index.proofs.begin.Symbol.{name as #index·begin}
 use Rattle.index.proofs.begin.Met as call-thm
-use Rattle.kerenvuf.specs.Heard.{seen, told}
-use Rattle.kerenvuf.proofs.KvNumbers.{Numbers}
-use Rattle.kerenvuf.proofs.Exported.{Says, Gives, Call, exported}
-use Rattle.kerenvuf.proofs.answers.numbers.Symbol as numbers-def
-use Rattle.kerenvuf.proofs.answers.numbers.Symbol.{name as #kerenvuf·numbers}
-use Rattle.kerenvuf.proofs.answers.numbers.Met as numbers-thm
 use Rattle.kerenvuf.proofs.exports.kv_begin.Key.{name as #kerenvuf·kv-begin}
 use Rattle.kerenvuf.proofs.exports.kv_begin.Statement as stated
 use Rattle.kerenvuf.proofs.exports.kv_begin.Code as code
 
-abbrev Ens : Says 0
-Ens ys0 ys1 ys2 ys3 ys4 ys5 ts n ns r zs0 zs1 zs2 zs3 zs4 zs5 us = seen (tables zs0 zs1 zs2 zs3 zs4 zs5 us) r ≡ told (beginOf (tables ys0 ys1 ys2 ys3 ys4 ys5 ts) n)
-
-abbrev CEns : call.Says 0
-CEns ys0 ys1 ys2 ys3 ys4 ys5 ts n ns r zs0 zs1 zs2 zs3 zs4 zs5 us = outcome (tables zs0 zs1 zs2 zs3 zs4 zs5 us) (said r) ≡ beginOf (tables ys0 ys1 ys2 ys3 ys4 ys5 ts) n
-
-gives : Gives 0 CEns Ens
-gives ys0 ys1 ys2 ys3 ys4 ys5 ts n ns r zs0 zs1 zs2 zs3 zs4 zs5 us h = ap told h
-
 pub kv-begin-spec : {M : Type 1} → stated.statement M
 unfolding code.routine
 kv-begin-spec 𝓤 H 𝓜 𝓖 𝓡 =
-    exported 𝓤 H 𝓜 𝓖 𝓡 0 Ens CEns gives #index·begin code.env #kerenvuf·kv-begin (code.unfolded 𝓤 H 𝓜 𝓡)
-    (cited 𝓤 H (Call 𝓤 H (𝓖 .A) 0 CEns) 𝓜 𝓡 code.env #index·begin call-def.routine code.calls-index·begin (call-thm.met 𝓤 H 𝓜 𝓖 𝓡))
-    (cited 𝓤 H (Numbers 𝓤 H (𝓖 .A) (𝓜 .mem) (𝓡 .run)) 𝓜 𝓡 code.env #kerenvuf·numbers numbers-def.routine code.calls-kerenvuf·answers·numbers (numbers-thm.met 𝓤 H 𝓜 𝓖 𝓡))
+    then (on-tables watched (begins .more)) the-answer the-numbers (Comes-to watched begins) Numbered (Seen-of begins)
+    (λ y d b h r z e. encodes (tabs b (past b .0)) (begins .buffers (past b .1)) d _ r h e)
+    𝓤 H 𝓜 𝓖 𝓡 code.env #kerenvuf·kv-begin (record { name = call-def.name; routine = call-def.routine; met = call-thm.met })
+    (record { name = numbers-name; routine = numbers-routine; met = numbers-met })
+    (code.unfolded 𝓤 H 𝓜 𝓡) code.calls-index·begin code.calls-kerenvuf·answers·numbers

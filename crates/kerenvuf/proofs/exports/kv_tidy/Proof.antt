@@ -1,37 +1,19 @@
--- `exports::kv_tidy` meets its contract: it is an instance of `Exported.antt`, at the index's `tidy`.
+-- `exports::kv_tidy` meets its contract: it is an instance of the walk of the exports, at the index's `tidy`.
 -- Assumes nothing.
-use mathlib.Core.Path.{_≡_, ap}
-use denote.Triple.Table.{cited}
-use Rattle.tables.specs.Cells.{tables}
-use Rattle.calls.specs.Said.{said}
-use Rattle.calls.specs.Outcome.{outcome}
-use Rattle.calls.specs.Calls.{tidyOf}
-use Rattle.index.proofs.Through as call
+use Rattle.kerenvuf.proofs.Exported.{watched, the-answer, the-numbers, on-tables, tabs, past, Comes-to, Numbered, Seen-of, encodes}
+use Rattle.kerenvuf.proofs.Exported.{then, numbers-name, numbers-routine, numbers-met}
+use Rattle.index.proofs.Calls.{tidies}
 use Rattle.index.proofs.tidy.Symbol as call-def
-use Rattle.index.proofs.tidy.Symbol.{name as #index·tidy}
 use Rattle.index.proofs.tidy.Met as call-thm
-use Rattle.kerenvuf.specs.Heard.{seen, told}
-use Rattle.kerenvuf.proofs.KvNumbers.{Numbers}
-use Rattle.kerenvuf.proofs.Exported.{Says, Gives, Call, exported}
-use Rattle.kerenvuf.proofs.answers.numbers.Symbol as numbers-def
-use Rattle.kerenvuf.proofs.answers.numbers.Symbol.{name as #kerenvuf·numbers}
-use Rattle.kerenvuf.proofs.answers.numbers.Met as numbers-thm
 use Rattle.kerenvuf.proofs.exports.kv_tidy.Key.{name as #kerenvuf·kv-tidy}
 use Rattle.kerenvuf.proofs.exports.kv_tidy.Statement as stated
 use Rattle.kerenvuf.proofs.exports.kv_tidy.Code as code
 
-abbrev Ens : Says 1
-Ens ys0 ys1 ys2 ys3 ys4 ys5 ts n ns r zs0 zs1 zs2 zs3 zs4 zs5 us = seen (tables zs0 zs1 zs2 zs3 zs4 zs5 us) r ≡ told (tidyOf (tables ys0 ys1 ys2 ys3 ys4 ys5 ts) n (ns .0))
-
-abbrev CEns : call.Says 1
-CEns ys0 ys1 ys2 ys3 ys4 ys5 ts n ns r zs0 zs1 zs2 zs3 zs4 zs5 us = outcome (tables zs0 zs1 zs2 zs3 zs4 zs5 us) (said r) ≡ tidyOf (tables ys0 ys1 ys2 ys3 ys4 ys5 ts) n (ns .0)
-
-gives : Gives 1 CEns Ens
-gives ys0 ys1 ys2 ys3 ys4 ys5 ts n ns r zs0 zs1 zs2 zs3 zs4 zs5 us h = ap told h
-
 pub kv-tidy-spec : {M : Type 1} → stated.statement M
 unfolding code.routine
 kv-tidy-spec 𝓤 H 𝓜 𝓖 𝓡 =
-    exported 𝓤 H 𝓜 𝓖 𝓡 1 Ens CEns gives #index·tidy code.env #kerenvuf·kv-tidy (code.unfolded 𝓤 H 𝓜 𝓡)
-    (cited 𝓤 H (Call 𝓤 H (𝓖 .A) 1 CEns) 𝓜 𝓡 code.env #index·tidy call-def.routine code.calls-index·tidy (call-thm.met 𝓤 H 𝓜 𝓖 𝓡))
-    (cited 𝓤 H (Numbers 𝓤 H (𝓖 .A) (𝓜 .mem) (𝓡 .run)) 𝓜 𝓡 code.env #kerenvuf·numbers numbers-def.routine code.calls-kerenvuf·answers·numbers (numbers-thm.met 𝓤 H 𝓜 𝓖 𝓡))
+    then (on-tables watched (tidies .more)) the-answer the-numbers (Comes-to watched tidies) Numbered (Seen-of tidies)
+    (λ y d b h r z e. encodes (tabs b (past b .0)) (tidies .buffers (past b .1)) d _ r h e)
+    𝓤 H 𝓜 𝓖 𝓡 code.env #kerenvuf·kv-tidy (record { name = call-def.name; routine = call-def.routine; met = call-thm.met })
+    (record { name = numbers-name; routine = numbers-routine; met = numbers-met })
+    (code.unfolded 𝓤 H 𝓜 𝓡) code.calls-index·tidy code.calls-kerenvuf·answers·numbers

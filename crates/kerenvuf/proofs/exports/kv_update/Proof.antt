@@ -1,37 +1,19 @@
--- `exports::kv_update` meets its contract: it is an instance of `Exported.antt`, at the index's `update`.
+-- `exports::kv_update` meets its contract: it is an instance of the walk of the exports, at the index's `update`.
 -- Assumes nothing.
-use mathlib.Core.Path.{_≡_, ap}
-use denote.Triple.Table.{cited}
-use Rattle.tables.specs.Cells.{tables}
-use Rattle.calls.specs.Said.{said}
-use Rattle.calls.specs.Outcome.{outcome}
-use Rattle.calls.specs.Calls.{updateOf}
-use Rattle.index.proofs.Through as call
+use Rattle.kerenvuf.proofs.Exported.{watched, the-answer, the-numbers, on-tables, tabs, past, Comes-to, Numbered, Seen-of, encodes}
+use Rattle.kerenvuf.proofs.Exported.{then, numbers-name, numbers-routine, numbers-met}
+use Rattle.index.proofs.Calls.{updates}
 use Rattle.index.proofs.update.Symbol as call-def
-use Rattle.index.proofs.update.Symbol.{name as #index·update}
 use Rattle.index.proofs.update.Met as call-thm
-use Rattle.kerenvuf.specs.Heard.{seen, told}
-use Rattle.kerenvuf.proofs.KvNumbers.{Numbers}
-use Rattle.kerenvuf.proofs.Exported.{Says, Gives, Call, exported}
-use Rattle.kerenvuf.proofs.answers.numbers.Symbol as numbers-def
-use Rattle.kerenvuf.proofs.answers.numbers.Symbol.{name as #kerenvuf·numbers}
-use Rattle.kerenvuf.proofs.answers.numbers.Met as numbers-thm
 use Rattle.kerenvuf.proofs.exports.kv_update.Key.{name as #kerenvuf·kv-update}
 use Rattle.kerenvuf.proofs.exports.kv_update.Statement as stated
 use Rattle.kerenvuf.proofs.exports.kv_update.Code as code
 
-abbrev Ens : Says 2
-Ens ys0 ys1 ys2 ys3 ys4 ys5 ts n ns r zs0 zs1 zs2 zs3 zs4 zs5 us = seen (tables zs0 zs1 zs2 zs3 zs4 zs5 us) r ≡ told (updateOf (tables ys0 ys1 ys2 ys3 ys4 ys5 ts) n (ns .0) (ns .1 .0))
-
-abbrev CEns : call.Says 2
-CEns ys0 ys1 ys2 ys3 ys4 ys5 ts n ns r zs0 zs1 zs2 zs3 zs4 zs5 us = outcome (tables zs0 zs1 zs2 zs3 zs4 zs5 us) (said r) ≡ updateOf (tables ys0 ys1 ys2 ys3 ys4 ys5 ts) n (ns .0) (ns .1 .0)
-
-gives : Gives 2 CEns Ens
-gives ys0 ys1 ys2 ys3 ys4 ys5 ts n ns r zs0 zs1 zs2 zs3 zs4 zs5 us h = ap told h
-
 pub kv-update-spec : {M : Type 1} → stated.statement M
 unfolding code.routine
 kv-update-spec 𝓤 H 𝓜 𝓖 𝓡 =
-    exported 𝓤 H 𝓜 𝓖 𝓡 2 Ens CEns gives #index·update code.env #kerenvuf·kv-update (code.unfolded 𝓤 H 𝓜 𝓡)
-    (cited 𝓤 H (Call 𝓤 H (𝓖 .A) 2 CEns) 𝓜 𝓡 code.env #index·update call-def.routine code.calls-index·update (call-thm.met 𝓤 H 𝓜 𝓖 𝓡))
-    (cited 𝓤 H (Numbers 𝓤 H (𝓖 .A) (𝓜 .mem) (𝓡 .run)) 𝓜 𝓡 code.env #kerenvuf·numbers numbers-def.routine code.calls-kerenvuf·answers·numbers (numbers-thm.met 𝓤 H 𝓜 𝓖 𝓡))
+    then (on-tables watched (updates .more)) the-answer the-numbers (Comes-to watched updates) Numbered (Seen-of updates)
+    (λ y d b h r z e. encodes (tabs b (past b .0)) (updates .buffers (past b .1)) d _ r h e)
+    𝓤 H 𝓜 𝓖 𝓡 code.env #kerenvuf·kv-update (record { name = call-def.name; routine = call-def.routine; met = call-thm.met })
+    (record { name = numbers-name; routine = numbers-routine; met = numbers-met })
+    (code.unfolded 𝓤 H 𝓜 𝓡) code.calls-index·update code.calls-kerenvuf·answers·numbers

@@ -1,0 +1,16 @@
+-- `update_held` meets its contract: it is an instance of the walk of the doors, at the index's `update`.
+-- Assumes nothing.
+use Rattle.door.proofs.Calls.{held-call, tables-in-front, Comes-to, unseen, Held-to}
+use Rattle.index.proofs.Calls.{updates}
+use Rattle.index.proofs.update.Symbol as call-def
+use Rattle.index.proofs.update.Met as call-thm
+use Rattle.door.proofs.update_held.Key.{name as #door·update-held}
+use Rattle.door.proofs.update_held.Statement as stated
+use Rattle.door.proofs.update_held.Code as code
+
+pub update-held-spec : {M : Type 1} → stated.statement M
+unfolding code.routine
+update-held-spec 𝓤 H 𝓜 𝓖 𝓡 =
+    held-call tables-in-front (updates .more) (Comes-to unseen updates) (Held-to updates) (λ y d z h. h)
+    𝓤 H 𝓜 𝓖 𝓡 code.env #door·update-held (record { name = call-def.name; routine = call-def.routine; met = call-thm.met })
+    (code.unfolded 𝓤 H 𝓜 𝓡) code.calls-index·update

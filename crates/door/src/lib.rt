@@ -1,0 +1,294 @@
+// The ten calls, of a program that holds its session table by value: each lends the table to the call of `index`, and hands it back with
+// the answer.
+use calls::Answer;
+use tables::Session;
+ghost use mathlib.Core.Path.{_≡_};
+ghost use mathlib.Core.List.{[], _∷_};
+ghost use Rattle.tables.specs.Cells.{tables};
+ghost use Rattle.calls.specs.Said.{said};
+ghost use Rattle.calls.specs.Outcome.{outcome};
+ghost use Rattle.calls.specs.Calls.{createOf, beginOf, readOf, updateOf, deleteOf, insertOf, commitOf, tidyOf, abortOf};
+ghost use Rattle.calls.specs.Query.{queryOf};
+
+// The session table of a program that holds it.
+pub struct Sessions {
+    pub at: [Session; 16],
+}
+
+// A call's answer, and the session table afterwards.
+pub struct Held {
+    pub answer: Answer,
+    pub at: [Session; 16],
+}
+
+// Create, of sessions that are held.
+pub fn create_held(
+    clock: &mut [u32],
+    slots: &mut [u32],
+    words: &mut [u64],
+    heads: &mut [u32],
+    log: &mut [u32],
+    changes: &mut [u32],
+    all: Sessions,
+    c: u64,
+    column: &[u8],
+) -> Held
+    ensures { λ r. ⌜ outcome
+        (tables (now (clock .exit)) (now (slots .exit)) (now (words .exit)) (now (heads .exit))
+        (now (log .exit)) (now (changes .exit)) (r .at)) [] (said (r .answer)) ≡ createOf
+        (tables (now (clock .entry)) (now (slots .entry)) (now (words .entry)) (now (heads .entry))
+        (now (log .entry)) (now (changes .entry)) (all .at)) c (now (column .entry)) ⌝ }
+{
+    let mut at = all.at;
+    let answer = index::create(clock, slots, words, heads, log, changes, &mut at, c, column);
+    Held {
+        answer: answer,
+        at: at,
+    }
+}
+
+// Begin, of sessions that are held.
+pub fn begin_held(
+    clock: &mut [u32],
+    slots: &mut [u32],
+    words: &mut [u64],
+    heads: &mut [u32],
+    log: &mut [u32],
+    changes: &mut [u32],
+    all: Sessions,
+    n: u64,
+) -> Held
+    ensures { λ r. ⌜ outcome
+        (tables (now (clock .exit)) (now (slots .exit)) (now (words .exit)) (now (heads .exit))
+        (now (log .exit)) (now (changes .exit)) (r .at)) [] (said (r .answer)) ≡ beginOf
+        (tables (now (clock .entry)) (now (slots .entry)) (now (words .entry)) (now (heads .entry))
+        (now (log .entry)) (now (changes .entry)) (all .at)) n ⌝ }
+{
+    let mut at = all.at;
+    let answer = index::begin(clock, slots, words, heads, log, changes, &mut at, n);
+    Held {
+        answer: answer,
+        at: at,
+    }
+}
+
+// Query, of sessions that are held.
+pub fn query_held(
+    clock: &mut [u32],
+    slots: &mut [u32],
+    words: &mut [u64],
+    heads: &mut [u32],
+    log: &mut [u32],
+    changes: &mut [u32],
+    all: Sessions,
+    scratch: &mut [u64],
+    n: u64,
+    v: u64,
+    threshold: u64,
+) -> Held
+    ensures { λ r. ⌜ outcome
+        (tables (now (clock .exit)) (now (slots .exit)) (now (words .exit)) (now (heads .exit))
+        (now (log .exit)) (now (changes .exit)) (r .at)) (now (scratch .exit) ∷ []) (said (r .answer)) ≡ queryOf
+        (tables (now (clock .entry)) (now (slots .entry)) (now (words .entry)) (now (heads .entry))
+        (now (log .entry)) (now (changes .entry)) (all .at)) (now (scratch .entry)) n v threshold ⌝ }
+{
+    let mut at = all.at;
+    let answer = index::query(
+        clock,
+        slots,
+        words,
+        heads,
+        log,
+        changes,
+        &mut at,
+        scratch,
+        n,
+        v,
+        threshold,
+    );
+    Held {
+        answer: answer,
+        at: at,
+    }
+}
+
+// Read, of sessions that are held.
+pub fn read_held(
+    clock: &mut [u32],
+    slots: &mut [u32],
+    words: &mut [u64],
+    heads: &mut [u32],
+    log: &mut [u32],
+    changes: &mut [u32],
+    all: Sessions,
+    n: u64,
+    row: u64,
+) -> Held
+    ensures { λ r. ⌜ outcome
+        (tables (now (clock .exit)) (now (slots .exit)) (now (words .exit)) (now (heads .exit))
+        (now (log .exit)) (now (changes .exit)) (r .at)) [] (said (r .answer)) ≡ readOf
+        (tables (now (clock .entry)) (now (slots .entry)) (now (words .entry)) (now (heads .entry))
+        (now (log .entry)) (now (changes .entry)) (all .at)) n row ⌝ }
+{
+    let mut at = all.at;
+    let answer = index::read(clock, slots, words, heads, log, changes, &mut at, n, row);
+    Held {
+        answer: answer,
+        at: at,
+    }
+}
+
+// Update, of sessions that are held.
+pub fn update_held(
+    clock: &mut [u32],
+    slots: &mut [u32],
+    words: &mut [u64],
+    heads: &mut [u32],
+    log: &mut [u32],
+    changes: &mut [u32],
+    all: Sessions,
+    n: u64,
+    row: u64,
+    v: u64,
+) -> Held
+    ensures { λ r. ⌜ outcome
+        (tables (now (clock .exit)) (now (slots .exit)) (now (words .exit)) (now (heads .exit))
+        (now (log .exit)) (now (changes .exit)) (r .at)) [] (said (r .answer)) ≡ updateOf
+        (tables (now (clock .entry)) (now (slots .entry)) (now (words .entry)) (now (heads .entry))
+        (now (log .entry)) (now (changes .entry)) (all .at)) n row v ⌝ }
+{
+    let mut at = all.at;
+    let answer = index::update(clock, slots, words, heads, log, changes, &mut at, n, row, v);
+    Held {
+        answer: answer,
+        at: at,
+    }
+}
+
+// Delete, of sessions that are held.
+pub fn delete_held(
+    clock: &mut [u32],
+    slots: &mut [u32],
+    words: &mut [u64],
+    heads: &mut [u32],
+    log: &mut [u32],
+    changes: &mut [u32],
+    all: Sessions,
+    n: u64,
+    row: u64,
+) -> Held
+    ensures { λ r. ⌜ outcome
+        (tables (now (clock .exit)) (now (slots .exit)) (now (words .exit)) (now (heads .exit))
+        (now (log .exit)) (now (changes .exit)) (r .at)) [] (said (r .answer)) ≡ deleteOf
+        (tables (now (clock .entry)) (now (slots .entry)) (now (words .entry)) (now (heads .entry))
+        (now (log .entry)) (now (changes .entry)) (all .at)) n row ⌝ }
+{
+    let mut at = all.at;
+    let answer = index::delete(clock, slots, words, heads, log, changes, &mut at, n, row);
+    Held {
+        answer: answer,
+        at: at,
+    }
+}
+
+// Insert, of sessions that are held.
+pub fn insert_held(
+    clock: &mut [u32],
+    slots: &mut [u32],
+    words: &mut [u64],
+    heads: &mut [u32],
+    log: &mut [u32],
+    changes: &mut [u32],
+    all: Sessions,
+    n: u64,
+    v: u64,
+) -> Held
+    ensures { λ r. ⌜ outcome
+        (tables (now (clock .exit)) (now (slots .exit)) (now (words .exit)) (now (heads .exit))
+        (now (log .exit)) (now (changes .exit)) (r .at)) [] (said (r .answer)) ≡ insertOf
+        (tables (now (clock .entry)) (now (slots .entry)) (now (words .entry)) (now (heads .entry))
+        (now (log .entry)) (now (changes .entry)) (all .at)) n v ⌝ }
+{
+    let mut at = all.at;
+    let answer = index::insert(clock, slots, words, heads, log, changes, &mut at, n, v);
+    Held {
+        answer: answer,
+        at: at,
+    }
+}
+
+// Commit, of sessions that are held.
+pub fn commit_held(
+    clock: &mut [u32],
+    slots: &mut [u32],
+    words: &mut [u64],
+    heads: &mut [u32],
+    log: &mut [u32],
+    changes: &mut [u32],
+    all: Sessions,
+    n: u64,
+) -> Held
+    ensures { λ r. ⌜ outcome
+        (tables (now (clock .exit)) (now (slots .exit)) (now (words .exit)) (now (heads .exit))
+        (now (log .exit)) (now (changes .exit)) (r .at)) [] (said (r .answer)) ≡ commitOf
+        (tables (now (clock .entry)) (now (slots .entry)) (now (words .entry)) (now (heads .entry))
+        (now (log .entry)) (now (changes .entry)) (all .at)) n ⌝ }
+{
+    let mut at = all.at;
+    let answer = index::commit(clock, slots, words, heads, log, changes, &mut at, n);
+    Held {
+        answer: answer,
+        at: at,
+    }
+}
+
+// Tidy, of sessions that are held.
+pub fn tidy_held(
+    clock: &mut [u32],
+    slots: &mut [u32],
+    words: &mut [u64],
+    heads: &mut [u32],
+    log: &mut [u32],
+    changes: &mut [u32],
+    all: Sessions,
+    n: u64,
+    v: u64,
+) -> Held
+    ensures { λ r. ⌜ outcome
+        (tables (now (clock .exit)) (now (slots .exit)) (now (words .exit)) (now (heads .exit))
+        (now (log .exit)) (now (changes .exit)) (r .at)) [] (said (r .answer)) ≡ tidyOf
+        (tables (now (clock .entry)) (now (slots .entry)) (now (words .entry)) (now (heads .entry))
+        (now (log .entry)) (now (changes .entry)) (all .at)) n v ⌝ }
+{
+    let mut at = all.at;
+    let answer = index::tidy(clock, slots, words, heads, log, changes, &mut at, n, v);
+    Held {
+        answer: answer,
+        at: at,
+    }
+}
+
+// Abort, of sessions that are held.
+pub fn abort_held(
+    clock: &mut [u32],
+    slots: &mut [u32],
+    words: &mut [u64],
+    heads: &mut [u32],
+    log: &mut [u32],
+    changes: &mut [u32],
+    all: Sessions,
+    n: u64,
+) -> Held
+    ensures { λ r. ⌜ outcome
+        (tables (now (clock .exit)) (now (slots .exit)) (now (words .exit)) (now (heads .exit))
+        (now (log .exit)) (now (changes .exit)) (r .at)) [] (said (r .answer)) ≡ abortOf
+        (tables (now (clock .entry)) (now (slots .entry)) (now (words .entry)) (now (heads .entry))
+        (now (log .entry)) (now (changes .entry)) (all .at)) n ⌝ }
+{
+    let mut at = all.at;
+    let answer = index::abort(clock, slots, words, heads, log, changes, &mut at, n);
+    Held {
+        answer: answer,
+        at: at,
+    }
+}
