@@ -11,6 +11,7 @@ use lib.ListN.{length, take, drop, length-take}
 use Rattle.bits.specs.Rows.{rowsOf}
 use Rattle.rules.specs.Calls.{Answer, refused, ok, value, listed}
 use Rattle.tables.specs.declared.counts.Stamp.{Stamp}
+use Rattle.tables.specs.declared.counts.Row.{Row}
 use Rattle.tables.specs.declared.counts.Value.{Value}
 use Rattle.tables.specs.declared.refusal.Refusal.{Refusal}
 use Rattle.tables.specs.Refusals.{numberOf}
@@ -27,7 +28,7 @@ use Rattle.calls.specs.declared.answers.Answer.the-variants.{No, Count, At, Rea
 use Rattle.calls.specs.Said.{said, placeOf}
 use Rattle.calls.specs.Query.{pickedFrom}
 use Rattle.lines.specs.Line.{answerLine, PutLine}
-use Rattle.lines.specs.Settled.{heardFrom}
+use Rattle.lines.specs.Turn.{heardFrom}
 
 -- ---- the part that the picker returns has at most 32 words
 
@@ -77,9 +78,9 @@ module _ (ws s d e : List ℕ) (r : ℕ) (answer : core.Answer) where
   unfolding heardFrom
   put-count n p h = heard-as (Count n) (ok (n ∷ [])) 13 p refl h (omega arith)
 
-  pub put-at : (t : Stamp) (n : ℕ) → answer ≡ At t n → Answered d (ok (t .0 ∷ n ∷ [])) e r 24 → Answered d (heardFrom ws s (said answer)) e r 10275
+  pub put-at : (t : Stamp) (n : Row) → answer ≡ At t n → Answered d (ok (t .0 ∷ n .0 ∷ [])) e r 24 → Answered d (heardFrom ws s (said answer)) e r 10275
   unfolding heardFrom
-  put-at t n p h = heard-as (At t n) (ok (t .0 ∷ n ∷ [])) 24 p refl h (omega arith)
+  put-at t n p h = heard-as (At t n) (ok (t .0 ∷ n .0 ∷ [])) 24 p refl h (omega arith)
 
   pub put-read : (x : Standing) → answer ≡ Read x → Answered d (value (standingOf x)) e r 13 → Answered d (heardFrom ws s (said answer)) e r 10275
   unfolding heardFrom

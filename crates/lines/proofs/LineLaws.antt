@@ -16,13 +16,8 @@ use Rattle.text.specs.declared.words.Word.the-variants as word
 use Rattle.text.specs.declared.requests.Request.{Request}
 use Rattle.text.specs.Parse.{parse, longestLine}
 use Rattle.text.specs.Asked.{ask, askedBy, asked, lineBytes, Requested}
-use Rattle.lent.specs.declared.seats.Seat.{Seat}
-use Rattle.lent.specs.Places.{putAt}
-use Rattle.lent.specs.Seats.{seatOf}
-use Rattle.calls.specs.declared.answers.Done.{Done}
-use Rattle.calls.specs.Said.{said}
-use Rattle.lines.specs.Turn.{Turn, turn, turnOf}
-use Rattle.lines.specs.Settled.{settledAt, heardFrom, Turns}
+use Rattle.calls.specs.Said.{Said}
+use Rattle.lines.specs.Turn.{Turn, turnOf, heardFrom, Turned}
 use Rattle.lines.specs.Line.{LineOutcome, lineOutcome, enough, answerLine, PutLine, written, lineOf}
 
 -- a line that is too long is not read
@@ -33,22 +28,17 @@ long-line line column l =
     record { means = rw b; bytes-are = rw b; within = λ e. absurd (let z : _≡_ {A = ℕ} 0 1 = cc in omega (arith, z)) }
 
 -- what was asked for, done and written
-pub line-done : (clock slots words heads log changes clock′ slots′ words′ heads′ log′ changes′ scratch scratch′ line column column′ out out′ : List ℕ) (ts : List Session) (wish : Request)
-    (x : Seat) (d : Done) (len : ℕ) → Requested line column column′ wish → x ≡ seatOf clock log ts (wish .a)
-    → Turns (tables clock slots words heads log changes) (tables clock′ slots′ words′ heads′ log′ changes′) scratch scratch′ x (wish .a) (asked wish column′) d
-    → PutLine out (heardFrom words′ scratch′ (said (d .answer))) out′ len
-    → lineOutcome (tables clock′ slots′ words′ heads′ log′ changes′ (settledAt ts (d .place) (d .session))) scratch′ column′ out′ len
-    ≡ written (turnOf (tables clock slots words heads log changes ts) scratch (parse line)) line column out
+pub line-done : (t t′ : Tables) (scratch scratch′ line column column′ out out′ : List ℕ) (wish : Request) (a : Said) (len : ℕ)
+    → Requested line column column′ wish → Turned t t′ scratch scratch′ (asked wish column′) a
+    → PutLine out (heardFrom (t′ .words) scratch′ a) out′ len
+    → lineOutcome t′ scratch′ column′ out′ len ≡ written (turnOf t scratch (parse line)) line column out
 unfolding written
-line-done clock slots words heads log changes clock′ slots′ words′ heads′ log′ changes′ scratch scratch′ line column column′ out out′ ts wish x d len q s t w =
-    let after = tables clock′ slots′ words′ heads′ log′ changes′ (settledAt ts (d .place) (d .session)) in
-    let told = heardFrom words′ scratch′ (said (d .answer)) in
+line-done t t′ scratch scratch′ line column column′ out out′ wish a len q h w =
+    let told = heardFrom (t′ .words) scratch′ a in
     let many : len ≡ length (answerLine told) = omega (arith, w .wrote .place-is) in
-    let turns : turn after scratch′ told ≡ turnOf (tables clock slots words heads log changes ts) scratch (parse line) =
-    t ts s ∙ ap (turnOf (tables clock slots words heads log changes ts) scratch) (q .means) in
-    ap₂ (λ (col o : List ℕ). lineOutcome after scratch′ col o len) (q .bytes-are) (w .wrote .list-is)
-    ∙ ap (lineOutcome after scratch′ (sets column 0 (lineBytes line)) (sets out 0 (answerLine told))) many
-    ∙ ap (λ (o : Turn). written o line column out) turns
+    ap₂ (λ (col o : List ℕ). lineOutcome t′ scratch′ col o len) (q .bytes-are) (w .wrote .list-is)
+    ∙ ap (lineOutcome t′ scratch′ (sets column 0 (lineBytes line)) (sets out 0 (answerLine told))) many
+    ∙ ap (λ (o : Turn). written o line column out) (h ∙ ap (turnOf t scratch) (q .means))
 
 -- ---- room
 
@@ -70,15 +60,15 @@ module _ (t : Tables) (scratch column out line : List ℕ) where
   short-out l = short (ap (λ (b : Bool). leb 4096 (length column) && b) (lt-leb 10276 (length out) l) ∙ and-false (leb 4096 (length column)))
 
 -- nothing is done: no session changes
-module _ (clock slots words heads log changes scratch column out line : List ℕ) (ts : List Session) (len place : ℕ) (x : Session) (n : (len ≡ 0) × (place ≡ 16)) where
-  none-settled : (t : Tables) → lineOutcome (tables clock slots words heads log changes (settledAt ts place x)) scratch column out len ≡ lineOutcome (tables clock slots words heads log changes ts) scratch column out 0
-  unfolding settledAt putAt
-  none-settled t = rw (n .0, n .1)
+module _ (clock slots words heads log changes scratch column out line : List ℕ) (ts us : List Session) (len : ℕ) (n : (len ≡ 0) × (us ≡ ts)) where
+  abbrev lent : List Session → Tables
+  lent = tables clock slots words heads log changes
 
-  pub nothing-column : length column < 4096
-      → lineOutcome (tables clock slots words heads log changes (settledAt ts place x)) scratch column out len ≡ lineOf (tables clock slots words heads log changes ts) scratch column out line
-  nothing-column l = none-settled (tables clock slots words heads log changes ts) ∙ short-column (tables clock slots words heads log changes ts) scratch column out line l
+  none-done : lineOutcome (lent us) scratch column out len ≡ lineOutcome (lent ts) scratch column out 0
+  none-done = rw (n .0, n .1)
 
-  pub nothing-out : length out < 10276
-      → lineOutcome (tables clock slots words heads log changes (settledAt ts place x)) scratch column out len ≡ lineOf (tables clock slots words heads log changes ts) scratch column out line
-  nothing-out l = none-settled (tables clock slots words heads log changes ts) ∙ short-out (tables clock slots words heads log changes ts) scratch column out line l
+  pub nothing-column : length column < 4096 → lineOutcome (lent us) scratch column out len ≡ lineOf (lent ts) scratch column out line
+  nothing-column h = none-done ∙ short-column (lent ts) scratch column out line h
+
+  pub nothing-out : length out < 10276 → lineOutcome (lent us) scratch column out len ≡ lineOf (lent ts) scratch column out line
+  nothing-out h = none-done ∙ short-out (lent ts) scratch column out line h

@@ -1,124 +1,103 @@
--- The call that a request asks for: what each core comes to is what the line's definition says.
+-- The call that a request asks for: what its public call comes to is what the line's definition says.
 -- Assumes nothing.
 use mathlib.Core.Path.{_≡_, refl, sym, ap, ap₂, _∙_}
 use mathlib.Core.Bool.{Bool, true, false, cond}
 use mathlib.Core.List.{List, [], _∷_, map}
 use mathlib.Core.Option.{Option, none, some}
-use Prim.Native.Nat.{ℕ, _≤_, _<_}
-use native.Mathlib.Omega.{arith}
-use borrow.Author.Tests.{lt-ltb, le-ltb, eq-eqb, ne-eqb}
-use lib.Dec.{eqb, ltb}
-use lib.ListN.{length, take}
-use lib.Seq.{length-take-le}
-use Rattle.bits.specs.Cases.{lt-cases, eq-cases}
 use mathlib.Core.Logic.{_⊎_, inl, inr}
+use Prim.Native.Nat.{ℕ, _≤_}
+use borrow.Author.Tests.{eq-eqb, ne-eqb}
+use lib.Dec.{eqb, ltb}
+use lib.ListN.{length, take, replicate}
+use lib.Seq.{length-take-le}
+use Rattle.bits.specs.Cases.{eq-cases}
 use Rattle.bits.specs.Column.{valueOf}
+use Rattle.bits.specs.Tab.{over}
+use Rattle.bits.specs.Vec.{vec}
+use Rattle.rules.specs.State.{session, startOf}
 use Rattle.rules.specs.Limits.{usualThreshold}
 use Rattle.rules.specs.Calls.{Call}
-use Rattle.rules.specs.Calls as rules
 use Rattle.tables.specs.declared.session.Session.{Session}
-use Rattle.tables.specs.declared.refusal.Refusal.the-variants.{Unreadable}
-use Rattle.tables.specs.Cells.{Tables, tables}
-use Rattle.tables.specs.Sessions.{freed}
+use Rattle.tables.specs.Cells.{Tables, tables, stampIn, rowsIn}
+use Rattle.tables.specs.Clock.{clockIn}
+use Rattle.tables.specs.Sessions.{freed, begun}
+use Rattle.tables.specs.Meaning.{meaning}
+use Rattle.history.specs.Version.{slotSeen}
 use Rattle.text.specs.declared.words.Word.{Word}
 use Rattle.text.specs.declared.words.Word.the-variants as word
 use Rattle.text.specs.declared.requests.Request.{Request}
 use Rattle.text.specs.Asked.{askedBy, asked}
-use Rattle.lent.specs.declared.seats.Seat.{Seat}
-use Rattle.lent.specs.Places.{putAt, freedAll}
-use Rattle.lent.specs.Seats as lent
-use Rattle.calls.specs.declared.answers.Done.{Done}
-use Rattle.calls.specs.declared.answers.Answer as core
-use Rattle.calls.specs.Said.{Said, said}
-use Rattle.calls.specs.Outcome.{Outcome, unless}
-use Rattle.calls.specs.Calls.{own, beginning, createOf, beginOf, readOf, updateOf, deleteOf, insertOf, commitOf, tidyOf, abortOf}
-use Rattle.calls.specs.Query.{QueryOutcome, queryOf}
-use Rattle.calls.specs.Seats.{plainly, refusing, placeFor, accepted, Serves, Asks, Creates}
-use Rattle.follow.proofs.Follows.{heardWith}
-use Rattle.follow.proofs.Query.{rowsPicked}
-use Rattle.demands.specs.Asks.{create, query, commit, tidy}
-use Rattle.lines.specs.Turn.{turn, byteFor, askWith, scratchAfter, made, turnOf}
-use Rattle.lines.specs.Settled.{settledAt, heardFrom, turned, Turns, freeing, within}
+use Rattle.calls.specs.Said.{Said, no, numbers, value, words}
+use Rattle.calls.specs.Outcome.{Outcome, outcome, unless}
+use Rattle.calls.specs.Calls.{own, reseated, beginning, createOf, beginOf, readOf, updateOf, deleteOf, insertOf, commitOf, tidyOf, abortOf}
+use Rattle.calls.specs.Query.{rowsSeen, flipsSeen, queryOf}
+use Rattle.calls.specs.Query as calls
+use Rattle.follow.specs.Heard.{heard}
+use Rattle.demands.specs.Asks.{Ask, create, begin, query, read, update, delete, insert, commit, tidy, abort, comesTo}
+use Rattle.lines.specs.Turn.{turn, byteFor, askWith, scratchAfter, made, turnOf, heardFrom, Turned}
 
--- ---- where a session goes
+-- ---- what a caller hears of a call is what is heard where its words and the program's scratch stand
 
--- a place below 17 is put, and 16 changes none
-settled-within : (ts : List Session) (p : ℕ) (x : Session) → settledAt ts (placeFor p) x ≡ putAt ts p x
-unfolding settledAt putAt
-settled-within ts p x = go (lt-cases p 16)
-  where
-    go : (p < 16) ⊎ (16 ≤ p) → cond (eqb (cond (ltb p 16) p 16) 17) (freedAll ts) (putAt ts (cond (ltb p 16) p 16) x) ≡ putAt ts p x
-    go (inl l) = rw (lt-ltb p 16 l, ne-eqb p 17 (λ e. omega (arith, l, e)), lt-ltb p 16 l)
-    go (inr l) = rw (le-ltb p 16 l)
+pub record Sure (o : Outcome) : Type 0 where
+  pub same : (s : List ℕ) → heard o ≡ heardFrom (o .after .words) (scratchAfter s (o .buffers)) (o .answer)
 
-settled-freeing : (ts : List Session) (b : Bool) → settledAt ts (cond b 17 16) freed ≡ cond b (freedAll ts) ts
-unfolding settledAt putAt
-settled-freeing ts true = refl
-settled-freeing ts false = refl
+-- numbers, a row's value, and words where a scratch was lent
+sure-numbers : (t : Tables) (ns : List ℕ) → Sure (outcome t [] (numbers ns))
+unfolding heardFrom
+sure-numbers t ns = record { same = λ s. refl }
 
-pub place-past : (p : ℕ) → 15 < p → 16 ≡ placeFor p
-place-past p l = rw (le-ltb p 16 (omega (arith, l)))
+sure-value : (t : Tables) (x : Option ℕ) → Sure (outcome t [] (value x))
+unfolding heardFrom
+sure-value t x = record { same = λ s. refl }
 
-pub place-there : (p : ℕ) → p ≤ 15 → p ≡ placeFor p
-place-there p l = rw (lt-ltb p 16 (omega (arith, l)))
+sure-words : (t : Tables) (w : List ℕ) (n : ℕ) (due : Bool) (place : Option ℕ) → Sure (outcome t (w ∷ []) (words n due place))
+unfolding heardFrom scratchAfter
+sure-words t w n due place = record { same = λ s. refl }
 
-pub within-made : (d : Done) (p : ℕ) → p ≡ placeFor (d .place) → record { answer = d .answer; place = p; session = d .session } ≡ within d
-unfolding within
-within-made d p e = rw e
+sure-unless : (w : Option ℕ) (t : Tables) (bs : List (List ℕ)) (o : Outcome) → Sure o → Sure (unless w t bs o)
+unfolding unless heardFrom
+sure-unless none t bs o h = h
+sure-unless (some n) t bs o h = record { same = λ s. refl }
 
-pub freeing-made : (a : core.Answer) (p : ℕ) (x : Session) → p ≡ cond (accepted a) 17 16 → x ≡ freed → record { answer = a; place = p; session = x } ≡ freeing a
-unfolding freeing
-freeing-made a p x e h = rw (e, h)
+sure-either : (b : Bool) (o p : Outcome) → Sure o → Sure p → Sure (cond b o p)
+sure-either true o p h k = h
+sure-either false o p h k = k
 
--- ---- an answer that points at no words says the same wherever the words stand
+begin-sure : (t : Tables) (n : ℕ) (x : Session) → Sure (beginning t n x)
+unfolding beginning
+begin-sure t n x =
+    sure-either (eqb (x .live) 1) (outcome t [] (numbers (x .start .0 ∷ x .rows .0 ∷ [])))
+    (outcome (reseated t n (begun (clockIn (t .clock) .stamp) (clockIn (t .clock) .rows))) [] (numbers (stampIn (t .clock) ∷ rowsIn (t .clock) ∷ [])))
+    (sure-numbers _ _) (sure-numbers _ _)
 
-abbrev Wordless : Said → Type 0
-Wordless a = (f g : Option ℕ → List ℕ) → heardWith f a ≡ heardWith g a
+query-sure : (t : Tables) (ws : List ℕ) (k v threshold : ℕ) → Sure (calls.asked t ws k v threshold)
+unfolding calls.asked
+query-sure t ws k v threshold =
+    let n = flipsSeen t k v in
+    sure-either (eqb n 0) (outcome t (ws ∷ []) (words 0 false (some (slotSeen (t .slots) (t .heads) k v))))
+    (outcome t (over (vec (rowsSeen t k v) 32) ws ∷ []) (words n (ltb threshold n) none)) (sure-words _ _ _ _ _) (sure-words _ _ _ _ _)
 
-wordless : (q : Option ℕ) (t : Tables) (o : Outcome) → Wordless (o .answer) → Wordless (unless q t o .answer)
-unfolding unless
-wordless none t o w = w
-wordless (some n) t o w = λ f g. refl
+all-sure : (t : Tables) (q : Ask) → Sure (comesTo t q)
+unfolding createOf beginOf queryOf readOf updateOf deleteOf insertOf commitOf tidyOf abortOf
+all-sure t (create c col) = sure-unless _ t [] _ (sure-numbers _ _)
+all-sure t (begin n) = sure-unless _ t [] _ (begin-sure t n (own t n))
+all-sure t (query ws n v threshold) = sure-unless _ t (ws ∷ []) _ (query-sure t ws (startOf (session (meaning t) n)) v threshold)
+all-sure t (read n r) = sure-unless _ t [] _ (sure-value _ _)
+all-sure t (update n r v) = sure-unless _ t [] _ (sure-numbers _ _)
+all-sure t (delete n r) = sure-unless _ t [] _ (sure-numbers _ _)
+all-sure t (insert n v) = sure-unless _ t [] _ (sure-numbers _ _)
+all-sure t (commit n) = sure-unless _ t [] _ (sure-numbers _ _)
+all-sure t (tidy n v) = sure-unless _ t [] _ (sure-numbers _ _)
+all-sure t (abort n) = sure-unless _ t [] _ (sure-numbers _ _)
 
-either-wordless : (b : Bool) (o p : Outcome) → Wordless (o .answer) → Wordless (p .answer) → Wordless (cond b o p .answer)
-either-wordless true o p v w = v
-either-wordless false o p v w = w
-
-begin-wordless : (t : Tables) (n : ℕ) → Wordless (beginOf t n .answer)
-unfolding beginOf beginning
-begin-wordless t n = wordless _ t _ (either-wordless (eqb (own t n .live) 1) _ _ (λ f g. refl) (λ f g. refl))
-
-create-wordless : (t : Tables) (c : ℕ) (col : List ℕ) → Wordless (createOf t c col .answer)
-unfolding createOf
-create-wordless t c col = wordless _ t _ (λ f g. refl)
-
-read-wordless : (t : Tables) (n r : ℕ) → Wordless (readOf t n r .answer)
-unfolding readOf
-read-wordless t n r = wordless _ t _ (λ f g. refl)
-
-update-wordless : (t : Tables) (n r v : ℕ) → Wordless (updateOf t n r v .answer)
-unfolding updateOf
-update-wordless t n r v = wordless _ t _ (λ f g. refl)
-
-delete-wordless : (t : Tables) (n r : ℕ) → Wordless (deleteOf t n r .answer)
-unfolding deleteOf
-delete-wordless t n r = wordless _ t _ (λ f g. refl)
-
-insert-wordless : (t : Tables) (n v : ℕ) → Wordless (insertOf t n v .answer)
-unfolding insertOf
-insert-wordless t n v = wordless _ t _ (λ f g. refl)
-
-commit-wordless : (t : Tables) (n : ℕ) → Wordless (commitOf t n .answer)
-unfolding commitOf
-commit-wordless t n = wordless _ t _ (λ f g. refl)
-
-tidy-wordless : (t : Tables) (n v : ℕ) → Wordless (tidyOf t n v .answer)
-unfolding tidyOf
-tidy-wordless t n v = wordless _ t _ (λ f g. refl)
-
-abort-wordless : (t : Tables) (n : ℕ) → Wordless (abortOf t n .answer)
-unfolding abortOf
-abort-wordless t n = wordless _ t _ (λ f g. refl)
+-- a call that was made, where the request asks for it
+call-turns : (t t′ : Tables) (bs : List (List ℕ)) (a : Said) (s : List ℕ) (q : Ask) (c : Option Call) → outcome t′ bs a ≡ comesTo t q
+    → turnOf t s c ≡ made t s q → Turned t t′ s (scratchAfter s bs) c a
+unfolding made
+call-turns t t′ bs a s q c e k =
+    ap (λ (o : Outcome).
+    turn (o .after) (scratchAfter s (o .buffers)) (heardFrom (o .after .words) (scratchAfter s (o .buffers)) (o .answer))) e
+    ∙ ap (turn (comesTo t q .after) (scratchAfter s (comesTo t q .buffers))) (sym (all-sure t q .same s)) ∙ sym k
 
 -- ---- the bytes of a column
 
@@ -134,128 +113,75 @@ bytes-again : (l : List ℕ) → map byteFor (map valueOf l) ≡ l
 bytes-again [] = refl
 bytes-again (b ∷ l) = ap₂ (λ (x : ℕ) (xs : List ℕ). x ∷ xs) (byte-again b) (bytes-again l)
 
--- ---- the calls
-
-module _ (clock slots words heads log changes clock′ slots′ words′ heads′ log′ changes′ scratch : List ℕ) (x : Seat) (n : ℕ) where
-  abbrev before : List Session → Tables
-  before = tables clock slots words heads log changes
-
-  abbrev after : List Session → Tables
-  after = tables clock′ slots′ words′ heads′ log′ changes′
-
-  -- what a call that is lent no scratch comes to
-  abbrev Plain : (Tables → Outcome) → Option Call → Type 0
-  Plain call c = (t : Tables) → turnOf t scratch c ≡ turn (call t .after) scratch (heardFrom words′ scratch (call t .answer))
-
-  serves-turns : (call : Tables → Outcome) (c : Option Call) → Plain call c → (d e : Done) → Serves before after call x n d → e ≡ within d → Turns before after scratch scratch x n c e
-  unfolding within
-  serves-turns call c k d e s w ts q =
-      ap (λ (y : Done). turned after scratch y ts) w
-      ∙ ap (λ (us : List Session). turn (after us) scratch (heardFrom words′ scratch (said (d .answer)))) (settled-within ts (d .place) (d .session))
-      ∙ ap (λ (o : Outcome). turn (o .after) scratch (heardFrom words′ scratch (o .answer))) (s ts q)
-      ∙ sym (k (before ts))
-
-  creates-turns : (call : Tables → Outcome) (c : Option Call) → Plain call c → (a : core.Answer) (e : Done) → Creates before after call (x .places) a → e ≡ freeing a → Turns before after scratch scratch x n c e
-  unfolding freeing lent.seatOf
-  creates-turns call c k a e s w ts q =
-      ap (λ (y : Done). turned after scratch y ts) w
-      ∙ ap (λ (us : List Session). turn (after us) scratch (heardFrom words′ scratch (said a))) (settled-freeing ts (accepted a))
-      ∙ ap (λ (o : Outcome). turn (o .after) scratch (heardFrom words′ scratch (o .answer))) (s ts (ap (λ (y : Seat). y .places) q))
-      ∙ sym (k (before ts))
-
--- a call of the rules by its word
-asked-by : (wish : Request) (col : List ℕ) (w : Word) → wish .word ≡ w → asked wish col ≡ askedBy w (wish .a) (wish .b) (wish .c) col
-unfolding asked
-asked-by wish col w e = ap (λ (v : Word). askedBy v (wish .a) (wish .b) (wish .c) col) e
-
-module _ (clock slots words heads log changes scratch column : List ℕ) (x : Seat) (wish : Request) (d e : Done) where
-  abbrev lent′ : List Session → Tables
-  lent′ = tables clock slots words heads log changes
-
-  abbrev Asked : Done → Type 0
-  Asked y = Turns lent′ lent′ scratch scratch x (wish .a) (asked wish column) y
-
-  pub begin-turns : wish .word ≡ word.Begin → Serves lent′ lent′ (λ t. beginOf t (wish .a)) x (wish .a) d → e ≡ within d → Asked e
-  unfolding askedBy turnOf made askWith scratchAfter heardFrom
-  begin-turns p s w =
-      serves-turns clock slots words heads log changes clock slots words heads log changes scratch x (wish .a) (λ t. beginOf t (wish .a)) (asked wish column)
-      (λ t. ap (turnOf t scratch) (asked-by wish column word.Begin p) ∙ ap (turn (beginOf t (wish .a) .after) scratch) (begin-wordless t (wish .a) _ _)) d e s w
-
-  pub read-turns : wish .word ≡ word.Read → Serves lent′ lent′ (λ t. readOf t (wish .a) (wish .b)) x (wish .a) d → e ≡ within d → Asked e
-  unfolding askedBy turnOf made askWith scratchAfter heardFrom
-  read-turns p s w =
-      serves-turns clock slots words heads log changes clock slots words heads log changes scratch x (wish .a) (λ t. readOf t (wish .a) (wish .b)) (asked wish column)
-      (λ t. ap (turnOf t scratch) (asked-by wish column word.Read p) ∙ ap (turn (readOf t (wish .a) (wish .b) .after) scratch) (read-wordless t (wish .a) (wish .b) _ _)) d e s w
-
-  pub update-turns : wish .word ≡ word.Update → Serves lent′ lent′ (λ t. updateOf t (wish .a) (wish .b) (wish .c)) x (wish .a) d → e ≡ within d → Asked e
-  unfolding askedBy turnOf made askWith scratchAfter heardFrom
-  update-turns p s w =
-      serves-turns clock slots words heads log changes clock slots words heads log changes scratch x (wish .a) (λ t. updateOf t (wish .a) (wish .b) (wish .c)) (asked wish column)
-      (λ t. ap (turnOf t scratch) (asked-by wish column word.Update p) ∙ ap (turn (updateOf t (wish .a) (wish .b) (wish .c) .after) scratch) (update-wordless t (wish .a) (wish .b) (wish .c) _ _)) d e s w
-
-  pub delete-turns : wish .word ≡ word.Delete → Serves lent′ lent′ (λ t. deleteOf t (wish .a) (wish .b)) x (wish .a) d → e ≡ within d → Asked e
-  unfolding askedBy turnOf made askWith scratchAfter heardFrom
-  delete-turns p s w =
-      serves-turns clock slots words heads log changes clock slots words heads log changes scratch x (wish .a) (λ t. deleteOf t (wish .a) (wish .b)) (asked wish column)
-      (λ t. ap (turnOf t scratch) (asked-by wish column word.Delete p) ∙ ap (turn (deleteOf t (wish .a) (wish .b) .after) scratch) (delete-wordless t (wish .a) (wish .b) _ _)) d e s w
-
-  pub insert-turns : wish .word ≡ word.Insert → Serves lent′ lent′ (λ t. insertOf t (wish .a) (wish .b)) x (wish .a) d → e ≡ within d → Asked e
-  unfolding askedBy turnOf made askWith scratchAfter heardFrom
-  insert-turns p s w =
-      serves-turns clock slots words heads log changes clock slots words heads log changes scratch x (wish .a) (λ t. insertOf t (wish .a) (wish .b)) (asked wish column)
-      (λ t. ap (turnOf t scratch) (asked-by wish column word.Insert p) ∙ ap (turn (insertOf t (wish .a) (wish .b) .after) scratch) (insert-wordless t (wish .a) (wish .b) _ _)) d e s w
-
-  pub abort-turns : wish .word ≡ word.Abort → Serves lent′ lent′ (λ t. abortOf t (wish .a)) x (wish .a) d → e ≡ within d → Asked e
-  unfolding askedBy turnOf made askWith scratchAfter heardFrom
-  abort-turns p s w =
-      serves-turns clock slots words heads log changes clock slots words heads log changes scratch x (wish .a) (λ t. abortOf t (wish .a)) (asked wish column)
-      (λ t. ap (turnOf t scratch) (asked-by wish column word.Abort p) ∙ ap (turn (abortOf t (wish .a) .after) scratch) (abort-wordless t (wish .a) _ _)) d e s w
-
-  -- a line that is none
-  pub none-turns : wish .word ≡ word.Unknown → e ≡ refusing Unreadable → Asked e
-  unfolding askedBy turnOf refusing plainly settledAt putAt heardFrom
-  none-turns p w ts q = ap (λ (y : Done). turned lent′ scratch y ts) w ∙ sym (ap (turnOf (lent′ ts) scratch) (asked-by wish column word.Unknown p))
-
-  -- a query writes the scratch
-  pub query-turns : (scratch′ : List ℕ) → wish .word ≡ word.Query → Asks lent′ lent′ scratch scratch′ (λ t ws. queryOf t ws (wish .a) (wish .b) 8) x (wish .a) d → e ≡ within d
-      → Turns lent′ lent′ scratch scratch′ x (wish .a) (asked wish column) e
-  unfolding askedBy turnOf made askWith scratchAfter heardFrom within usualThreshold
-  query-turns scratch′ p s w ts q =
-      ap (λ (y : Done). turned lent′ scratch′ y ts) w
-      ∙ ap (λ (us : List Session). turn (lent′ us) scratch′ (heardFrom words scratch′ (said (d .answer)))) (settled-within ts (d .place) (d .session))
-      ∙ ap (λ (o : QueryOutcome). turn (o .after) (o .scratch) (heardWith (rowsPicked (o .after) o) (o .answer))) (s ts q)
-      ∙ sym (ap (turnOf (lent′ ts) scratch) (asked-by wish column word.Query p))
-
-  -- commit, tidy and create write the number tables
-  pub commit-turns : (clock′ log′ changes′ : List ℕ) → wish .word ≡ word.Commit
-      → Serves lent′ (tables clock′ slots words heads log′ changes′) (λ t. commitOf t (wish .a)) x (wish .a) d → e ≡ within d
-      → Turns lent′ (tables clock′ slots words heads log′ changes′) scratch scratch x (wish .a) (asked wish column) e
-  unfolding askedBy turnOf made askWith scratchAfter heardFrom
-  commit-turns clock′ log′ changes′ p s w =
-      serves-turns clock slots words heads log changes clock′ slots words heads log′ changes′ scratch x (wish .a) (λ t. commitOf t (wish .a)) (asked wish column)
-      (λ t. ap (turnOf t scratch) (asked-by wish column word.Commit p) ∙ ap (turn (commitOf t (wish .a) .after) scratch) (commit-wordless t (wish .a) _ _)) d e s w
-
-  module _ (clock′ slots′ words′ heads′ log′ changes′ : List ℕ) where
-    abbrev left : List Session → Tables
-    left = tables clock′ slots′ words′ heads′ log′ changes′
-
-    pub tidy-turns : wish .word ≡ word.Tidy → Serves lent′ left (λ t. tidyOf t (wish .a) (wish .b)) x (wish .a) d → e ≡ within d
-        → Turns lent′ left scratch scratch x (wish .a) (asked wish column) e
-    unfolding askedBy turnOf made askWith scratchAfter heardFrom
-    tidy-turns p s w =
-        serves-turns clock slots words heads log changes clock′ slots′ words′ heads′ log′ changes′ scratch x (wish .a) (λ t. tidyOf t (wish .a) (wish .b)) (asked wish column)
-        (λ t. ap (turnOf t scratch) (asked-by wish column word.Tidy p) ∙ ap (turn (tidyOf t (wish .a) (wish .b) .after) scratch) (tidy-wordless t (wish .a) (wish .b) _ _)) d e s w
-
-    pub create-turns : (a : core.Answer) → wish .word ≡ word.Column → Creates lent′ left (λ t. createOf t (wish .a) (take (wish .b) column)) (x .places) a → e ≡ freeing a
-        → Turns lent′ left scratch scratch x (wish .a) (asked wish column) e
-    unfolding askedBy turnOf made askWith scratchAfter heardFrom
-    create-turns a p s w =
-        let part = take (wish .b) column in
-        creates-turns clock slots words heads log changes clock′ slots′ words′ heads′ log′ changes′ scratch x (wish .a) (λ t. createOf t (wish .a) part) (asked wish column)
-        (λ t. ap (turnOf t scratch) (asked-by wish column word.Column p)
-        ∙ ap (λ (col : List ℕ). made t scratch (create (wish .a) col)) (bytes-again part)
-        ∙ ap (turn (createOf t (wish .a) part .after) scratch) (create-wordless t (wish .a) part _ _)) a e s w
-
 -- a column's part of the lent bytes
-pub part-length : (column : List ℕ) (wish : Request) → (wish .word ≡ word.Column → wish .b ≤ length column) → wish .word ≡ word.Column → wish .b ≡ length (take (wish .b) column)
+pub part-length : (column : List ℕ) (wish : Request) → (wish .word ≡ word.Column → wish .b ≤ length column) → wish .word ≡ word.Column
+    → wish .b ≡ length (take (wish .b) column)
 part-length column wish h e = sym (length-take-le (wish .b) column (h e))
+
+-- ---- the call of each word
+
+module _ (t t′ : Tables) (s column : List ℕ) (wish : Request) (a : Said) where
+  -- what the request asks for, by its word
+  by-word : (w : Word) → wish .word ≡ w → turnOf t s (asked wish column) ≡ turnOf t s (askedBy w (wish .a) (wish .b) (wish .c) column)
+  unfolding asked
+  by-word w e = ap (λ (v : Word). turnOf t s (askedBy v (wish .a) (wish .b) (wish .c) column)) e
+
+  abbrev Done : Type 0
+  Done = Turned t t′ s s (asked wish column) a
+
+  pub create-turns : wish .word ≡ word.Column → outcome t′ [] a ≡ createOf t (wish .a) (take (wish .b) column) → Done
+  unfolding askedBy turnOf askWith scratchAfter
+  create-turns p e =
+      call-turns t t′ [] a s (create (wish .a) (take (wish .b) column)) (asked wish column) e
+      (by-word word.Column p ∙ ap (λ (col : List ℕ). made t s (create (wish .a) col)) (bytes-again (take (wish .b) column)))
+
+  pub begin-turns : wish .word ≡ word.Begin → outcome t′ [] a ≡ beginOf t (wish .a) → Done
+  unfolding askedBy turnOf askWith scratchAfter
+  begin-turns p e = call-turns t t′ [] a s (begin (wish .a)) (asked wish column) e (by-word word.Begin p)
+
+  pub query-turns : (s′ : List ℕ) → wish .word ≡ word.Query → outcome t′ (s′ ∷ []) a ≡ queryOf t s (wish .a) (wish .b) 8
+      → Turned t t′ s s′ (asked wish column) a
+  unfolding askedBy turnOf askWith scratchAfter usualThreshold
+  query-turns s′ p e = call-turns t t′ (s′ ∷ []) a s (query s (wish .a) (wish .b) 8) (asked wish column) e (by-word word.Query p)
+
+  pub read-turns : wish .word ≡ word.Read → outcome t′ [] a ≡ readOf t (wish .a) (wish .b) → Done
+  unfolding askedBy turnOf askWith scratchAfter
+  read-turns p e = call-turns t t′ [] a s (read (wish .a) (wish .b)) (asked wish column) e (by-word word.Read p)
+
+  pub update-turns : wish .word ≡ word.Update → outcome t′ [] a ≡ updateOf t (wish .a) (wish .b) (wish .c) → Done
+  unfolding askedBy turnOf askWith scratchAfter
+  update-turns p e = call-turns t t′ [] a s (update (wish .a) (wish .b) (wish .c)) (asked wish column) e (by-word word.Update p)
+
+  pub delete-turns : wish .word ≡ word.Delete → outcome t′ [] a ≡ deleteOf t (wish .a) (wish .b) → Done
+  unfolding askedBy turnOf askWith scratchAfter
+  delete-turns p e = call-turns t t′ [] a s (delete (wish .a) (wish .b)) (asked wish column) e (by-word word.Delete p)
+
+  pub insert-turns : wish .word ≡ word.Insert → outcome t′ [] a ≡ insertOf t (wish .a) (wish .b) → Done
+  unfolding askedBy turnOf askWith scratchAfter
+  insert-turns p e = call-turns t t′ [] a s (insert (wish .a) (wish .b)) (asked wish column) e (by-word word.Insert p)
+
+  pub commit-turns : wish .word ≡ word.Commit → outcome t′ [] a ≡ commitOf t (wish .a) → Done
+  unfolding askedBy turnOf askWith scratchAfter
+  commit-turns p e = call-turns t t′ [] a s (commit (wish .a)) (asked wish column) e (by-word word.Commit p)
+
+  pub tidy-turns : wish .word ≡ word.Tidy → outcome t′ [] a ≡ tidyOf t (wish .a) (wish .b) → Done
+  unfolding askedBy turnOf askWith scratchAfter
+  tidy-turns p e = call-turns t t′ [] a s (tidy (wish .a) (wish .b)) (asked wish column) e (by-word word.Tidy p)
+
+  pub abort-turns : wish .word ≡ word.Abort → outcome t′ [] a ≡ abortOf t (wish .a) → Done
+  unfolding askedBy turnOf askWith scratchAfter
+  abort-turns p e = call-turns t t′ [] a s (abort (wish .a)) (asked wish column) e (by-word word.Abort p)
+
+-- a line that is none
+pub none-turns : (clock slots ws heads log changes : List ℕ) (ts us : List Session) (s column : List ℕ) (wish : Request) (a : Said)
+    → wish .word ≡ word.Unknown → (us ≡ ts) × (a ≡ no 19)
+    → Turned (tables clock slots ws heads log changes ts) (tables clock slots ws heads log changes us) s s (asked wish column) a
+unfolding askedBy turnOf heardFrom
+none-turns clock slots ws heads log changes ts us s column wish a p h =
+    let lent = tables clock slots ws heads log changes in
+    ap₂ (λ (vs : List Session) (b : Said). turn (lent vs) s (heardFrom ws s b)) (h .0) (h .1)
+    ∙ sym (by-word (lent ts) (lent us) s column wish a word.Unknown p)
+
+-- sixteen free sessions
+pub free-each : (x : Session) → x ≡ freed → replicate 16 x ≡ replicate 16 freed
+free-each x e = ap (replicate 16) e

@@ -1,3 +1,2 @@
 pub mod Turn
-pub mod Settled
 pub mod Line

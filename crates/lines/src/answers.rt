@@ -1,4 +1,4 @@
-// An answer written as a line. Assumes nothing.
+// An answer written as a line.
 use calls::Answer;
 use history::Standing;
 ghost use Prim.Native.Nat.{_≤_};
@@ -8,7 +8,7 @@ ghost use Rattle.writing.specs.Wrote.{Answered};
 ghost use Rattle.history.specs.Read.{standingOf};
 ghost use Rattle.calls.specs.Said.{said};
 ghost use Rattle.lines.specs.Line.{PutLine};
-ghost use Rattle.lines.specs.Settled.{heardFrom};
+ghost use Rattle.lines.specs.Turn.{heardFrom};
 
 // What read answers.
 fn put_standing(out: &mut [u8], found: Standing) -> usize
@@ -29,7 +29,7 @@ fn put_answer<'a>(out: &mut [u8], answer: Answer, words: &'a [u64], scratch: &'a
     match answer {
         Answer::No(why) => writing::put_no(out, tables::number(why)),
         Answer::Count(n) => writing::put_ok_one(out, n),
-        Answer::At(s, n) => writing::put_ok_two(out, s.0, n),
+        Answer::At(s, n) => writing::put_ok_two(out, s.0, n.0),
         Answer::Read(found) => put_standing(out, found),
         Answer::Listed(flips, due, place) => {
             let vector = reading::picked(words, scratch, place);

@@ -1,12 +1,11 @@
 // A line of the step program: what it asks for is done, and its answer written. Assumes nothing.
 mod answers;
-mod held;
-mod reply;
+mod one_line;
+mod sessions;
 mod turns;
 
-pub use held::Lined;
-pub use held::Sessions;
-pub use held::all_free;
-pub use held::settled;
-pub use reply::line;
-pub use reply::nothing;
+pub use door::Sessions;
+pub use one_line::line;
+pub use sessions::Lined;
+pub use sessions::all_free;
+pub use sessions::nothing;

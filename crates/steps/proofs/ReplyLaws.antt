@@ -11,9 +11,7 @@ use Rattle.tables.specs.declared.session.Session.{Session}
 use Rattle.tables.specs.Cells.{Tables, tables}
 use Rattle.text.specs.Parse.{parse}
 use Rattle.text.specs.Feed.{wholeLine}
-use Rattle.lent.specs.Places.{putAt}
 use Rattle.lines.specs.Turn.{turnOf}
-use Rattle.lines.specs.Settled.{settledAt}
 use Rattle.lines.specs.Line.{LineOutcome, lineOutcome, answerLine, written, lineOf}
 use Rattle.lines.proofs.LineLaws.{line-read}
 use Rattle.steps.specs.Desk.{Desk, desk, turnAt, afterLine, afterLines, answersOf}
@@ -24,7 +22,8 @@ use Rattle.steps.specs.Answers.{Replied}
 pub answers-append : (d : Desk) (ls ms : List (List ℕ)) → answersOf d (ls ++ ms) ≡ answersOf d ls ++ answersOf (afterLines d ls) ms
 unfolding answersOf afterLines
 answers-append d [] ms = refl
-answers-append d (l ∷ ls) ms = rw (answers-append (afterLine d l) ls ms) (sym (append-assoc (answerLine (turnAt d l .answer)) (answersOf (afterLine d l) ls) _))
+answers-append d (l ∷ ls) ms = rw (answers-append (afterLine d l) ls ms)
+    (sym (append-assoc (answerLine (turnAt d l .answer)) (answersOf (afterLine d l) ls) _))
 
 pub after-append : (d : Desk) (ls ms : List (List ℕ)) → afterLines d (ls ++ ms) ≡ afterLines (afterLines d ls) ms
 unfolding afterLines
@@ -42,7 +41,8 @@ not-yes true e = sym e
 not-yes false e = refl
 
 module _ (t t′ : Tables) (s s′ column column′ out out′ line : List ℕ) (len : ℕ) where
-  pub replied-line : (whole : Bool) → not whole ≡ false → 4096 ≤ length column → 10276 ≤ length out → lineOutcome t′ s′ column′ out′ len ≡ lineOf t s column out line → len ≤ 10276
+  pub replied-line : (whole : Bool) → not whole ≡ false → 4096 ≤ length column → 10276 ≤ length out
+      → lineOutcome t′ s′ column′ out′ len ≡ lineOf t s column out line → len ≤ 10276
       → Replied (desk t s) (wholeLine whole line) out (desk t′ s′) out′ len
   unfolding wholeLine afterLines answersOf written
   replied-line whole w c l e k =
@@ -57,12 +57,13 @@ module _ (t t′ : Tables) (s s′ column column′ out out′ line : List ℕ) 
       } in
       rw (not-no whole w) r
 
-module _ (clock slots words heads log changes s out line : List ℕ) (ts : List Session) (x : Session) (len place : ℕ) where
-  pub replied-none : (whole : Bool) → not whole ≡ true → (len ≡ 0) × (place ≡ 16)
-      → Replied (desk (tables clock slots words heads log changes ts) s) (wholeLine whole line) out (desk (tables clock slots words heads log changes (settledAt ts place x)) s) out len
-  unfolding wholeLine afterLines answersOf settledAt putAt
+module _ (clock slots words heads log changes s out line : List ℕ) (ts us : List Session) (len : ℕ) where
+  pub replied-none : (whole : Bool) → not whole ≡ true → (len ≡ 0) × (us ≡ ts)
+      → Replied (desk (tables clock slots words heads log changes ts) s) (wholeLine whole line) out
+      (desk (tables clock slots words heads log changes us) s) out len
+  unfolding wholeLine afterLines answersOf
   replied-none whole w n =
       let t = tables clock slots words heads log changes ts in
-      let r : Replied (desk t s) [] out (desk (tables clock slots words heads log changes (settledAt ts place x)) s) out len =
+      let r : Replied (desk t s) [] out (desk (tables clock slots words heads log changes us) s) out len =
       record { desk-is = rw (n .1); out-is = refl; len-is = n .0; short = omega (arith, n .0) } in
       rw (not-yes whole w) r

@@ -36,27 +36,20 @@ pub record Spot : Type 0 where
 abbrev pub spot : Desk → List ℕ → ℕ → List ℕ → ℕ → ℕ → Spot
 spot d p n o f at = record { on = d; pending = p; len = n; out = o; filled = f; at = at }
 
--- what the rest of the chunk comes to from there: all bytes of answers, the tables and the scratch, the bytes pending
-abbrev pub allAnswers : List ℕ → Spot → List ℕ
-allAnswers bytes s = take (s .filled) (s .out) ++ answersOf (s .on) (linesLeft (s .pending) (s .len) bytes (s .at))
-
-abbrev pub lastDesk : List ℕ → Spot → Desk
-lastDesk bytes s = afterLines (s .on) (linesLeft (s .pending) (s .len) bytes (s .at))
-
-abbrev pub lastPending : List ℕ → Spot → List ℕ
-lastPending bytes s = pendingLeft (s .pending) (s .len) bytes (s .at)
-
 -- a spot within its buffers
 pub record Fits (bytes : List ℕ) (s : Spot) : Type 0 where
   pub len-fits : s .len ≤ length (s .pending)
   pub filled-fits : s .filled ≤ length (s .out)
   pub within : s .at ≤ length bytes
 
--- the code has come from one spot of a chunk to another: what the whole chunk comes to is the same from both
+-- the code has come from one spot of a chunk to another: it answered the first of the lines that were left, and these answers are behind
+-- those that were there
 pub record Comes (bytes : List ℕ) (s s′ : Spot) : Type 0 where
-  pub answers-are : allAnswers bytes s ≡ allAnswers bytes s′
-  pub desk-is : lastDesk bytes s ≡ lastDesk bytes s′
-  pub pending-is : lastPending bytes s ≡ lastPending bytes s′
+  pub first : List (List ℕ)
+  pub lines-are : linesLeft (s .pending) (s .len) bytes (s .at) ≡ first ++ linesLeft (s′ .pending) (s′ .len) bytes (s′ .at)
+  pub desk-is : s′ .on ≡ afterLines (s .on) first
+  pub answers-are : take (s′ .filled) (s′ .out) ≡ take (s .filled) (s .out) ++ answersOf (s .on) first
+  pub pending-is : pendingLeft (s .pending) (s .len) bytes (s .at) ≡ pendingLeft (s′ .pending) (s′ .len) bytes (s′ .at)
   pub pending-room : length (s′ .pending) ≡ length (s .pending)
   pub out-room : length (s′ .out) ≡ length (s .out)
   pub fits : Fits bytes s′
@@ -69,10 +62,3 @@ pub record Answers (bytes : List ℕ) (s s′ : Spot) : Type 0 where
   pub comes : Comes bytes s s′
   pub stops : s′ .at < length bytes → length (s′ .out) < s′ .filled + longestAnswer
   pub moves : s .at < length bytes → s .filled + longestAnswer ≤ length (s .out) → s .at < s′ .at
-
--- a chunk gone through, after the first `len` bytes pending: the tables and the scratch are those after all lines that it ends, and
--- the bytes pending are those after its last newline, as far as they are held
-pub record Through (bytes : List ℕ) (d : Desk) (pending : List ℕ) (len : ℕ) (d′ : Desk) (pending′ : List ℕ) (len′ : ℕ) : Type 0 where
-  pub desk-is : d′ ≡ afterLines d (linesLeft pending len bytes 0)
-  pub pending-is : take len′ pending′ ≡ pendingLeft pending len bytes 0
-  pub fits : len′ ≤ length pending

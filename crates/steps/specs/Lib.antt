@@ -1,2 +1,5 @@
 pub mod Desk
+pub mod Watch
+pub mod Ends
 pub mod Answers
+pub mod Program

@@ -9,7 +9,6 @@ ghost use lib.Dec.{leb, ltb};
 ghost use lib.ListN.{length, take};
 ghost use Rattle.tables.specs.Cells.{tables};
 ghost use Rattle.text.specs.Feed.{wholeLine};
-ghost use Rattle.lines.specs.Settled.{settledAt};
 ghost use Rattle.steps.specs.Desk.{desk};
 ghost use Rattle.steps.specs.Answers.{Replied, spot, Answers};
 
@@ -46,11 +45,16 @@ fn answered(
     fed: Fed,
 ) -> Lined
     requires { ⌜ (4096 ≤ length (now column)) × (10276 ≤ length (now out)) × (fed .line ≤ length (now pending)) ⌝ }
-    ensures { λ r. ⌜ Replied (desk (tables (now (clock .entry)) (now (slots .entry)) (now (words .entry)) (now (heads .entry)) (now (log .entry)) (now (changes .entry)) (all .at)) (now (scratch .entry))) (wholeLine (fed .whole) (take (fed .line) (now (pending .entry)))) (now (out .entry)) (desk (tables (now (clock .exit)) (now (slots .exit)) (now (words .exit)) (now (heads .exit)) (now (log .exit)) (now (changes .exit)) (settledAt (all .at) (r .place) (r .session))) (now (scratch .exit))) (now (out .exit)) (r .len) ⌝ }
+    ensures { λ r. ⌜ Replied
+        (desk (tables (now (clock .entry)) (now (slots .entry)) (now (words .entry)) (now (heads .entry)) (now (log .entry))
+        (now (changes .entry)) (all .at)) (now (scratch .entry))) (wholeLine (fed .whole) (take (fed .line)
+        (now (pending .entry)))) (now (out .entry))
+        (desk (tables (now (clock .exit)) (now (slots .exit)) (now (words .exit)) (now (heads .exit)) (now (log .exit))
+        (now (changes .exit)) (r .sessions .at)) (now (scratch .exit))) (now (out .exit)) (r .len) ⌝ }
 {
     let n = fed.line;
     if !fed.whole {
-        return lines::nothing();
+        return lines::nothing(all);
     }
     lines::line(
         clock,
@@ -83,8 +87,15 @@ pub fn answer(
     bytes: &[u8],
     before: State,
 ) -> State
-    requires { ⌜ (4096 ≤ length (now column)) × (before .pending ≤ length (now pending)) × (before .filled ≤ length (now out)) × (before .next ≤ length (now bytes)) ⌝ }
-    ensures { λ r. ⌜ Answers (now (bytes .entry)) (spot (desk (tables (now (clock .entry)) (now (slots .entry)) (now (words .entry)) (now (heads .entry)) (now (log .entry)) (now (changes .entry)) (before .sessions .at)) (now (scratch .entry))) (now (pending .entry)) (before .pending) (now (out .entry)) (before .filled) (before .next)) (spot (desk (tables (now (clock .exit)) (now (slots .exit)) (now (words .exit)) (now (heads .exit)) (now (log .exit)) (now (changes .exit)) (r .sessions .at)) (now (scratch .exit))) (now (pending .exit)) (r .pending) (now (out .exit)) (r .filled) (r .next)) ⌝ }
+    requires { ⌜ (4096 ≤ length (now column))
+        × (before .pending ≤ length (now pending))
+        × (before .filled ≤ length (now out)) × (before .next ≤ length (now bytes)) ⌝ }
+    ensures { λ r. ⌜ Answers (now (bytes .entry)) (spot (desk (tables (now (clock .entry)) (now (slots .entry))
+        (now (words .entry)) (now (heads .entry)) (now (log .entry)) (now (changes .entry)) (before .sessions .at))
+        (now (scratch .entry))) (now (pending .entry)) (before .pending) (now (out .entry)) (before .filled)
+        (before .next)) (spot (desk (tables (now (clock .exit)) (now (slots .exit)) (now (words .exit)) (now (heads .exit))
+        (now (log .exit)) (now (changes .exit)) (r .sessions .at)) (now (scratch .exit))) (now (pending .exit)) (r .pending)
+        (now (out .exit)) (r .filled) (r .next)) ⌝ }
 {
     let mut all = before.sessions;
     let mut len = before.pending;
@@ -107,14 +118,8 @@ pub fn answer(
             all,
             fed,
         );
-        let place = done.place;
-        if place < 16 {
-            let session = done.session;
-            all.at[place] = session;
-        } else if place == 17 {
-            let next = lines::settled(all, done);
-            all = next;
-        }
+        let next = done.sessions;
+        all = next;
         filled = filled + done.len;
         len = fed.len;
         at = fed.next;
