@@ -4,23 +4,18 @@
  */
 #include <stdio.h>
 #include <stdlib.h>
+#include <string.h>
 
 #include "kerenvuf.h"
 
 enum { HANDED_IN, IN_HAND, PASSED, REFERRED, STATES };
-enum { CONFLICT = 12, NOTHING_TO_MOVE = 13, STALE = 14 };
 enum { MOST_ROWS = 2048, READER = 14, NIGHT = 15 };
 
 static const char *const names[STATES] = {"handed in", "in hand", "passed", "referred"};
 
 /* The tables: ours, lent at every call. */
-static uint32_t clock_cells[KV_CLOCK], slots[KV_SLOTS], heads[KV_HEADS], record_log[KV_LOG], changes[KV_CHANGES];
-static uint64_t words[KV_WORDS], scratch[KV_SCRATCH];
-static kv_session sessions[KV_SESSIONS];
-
-#define LENT                                                                                                      \
-    clock_cells, KV_CLOCK, slots, KV_SLOTS, words, KV_WORDS, heads, KV_HEADS, record_log, KV_LOG, changes, KV_CHANGES, \
-        sessions, KV_SESSIONS
+static kv_tables t;
+static uint64_t scratch[KV_SCRATCH];
 
 /* Rows, as many as there are. */
 typedef struct rows {
@@ -31,7 +26,7 @@ typedef struct rows {
 /* An answer that is no refusal; a refusal here is a fault of this program. */
 static kv_answer accepted(kv_answer answer) {
     if (answer.refusal != 0) {
-        fprintf(stderr, "refused by %u\n", answer.refusal);
+        fprintf(stderr, "refused by %u, %s: %s\n", answer.refusal, kv_name(answer.refusal), kv_sentence(answer.refusal));
         exit(1);
     }
     return answer;
@@ -46,13 +41,23 @@ static void print_rows(const char *before, const rows *list) {
     printf("]");
 }
 
+/* Opens a session on a snapshot of this moment. A program that was restarted on saved tables meets its old session, with what it had
+ * listed: begin would answer the old start, so that one is dropped first. */
+static kv_answer open_anew(uint64_t session) {
+    kv_answer answer = kv_abort(KV_ALL(t), session);
+    if (answer.refusal != KV_NOT_OPEN) {
+        accepted(answer);
+    }
+    return accepted(kv_begin(KV_ALL(t), session));
+}
+
 /* New crowns, in one commit; the numbers of their rows. */
 static rows hand_in(uint64_t session, int count) {
-    accepted(kv_begin(LENT, session));
+    open_anew(session);
     for (int i = 0; i < count; i++) {
-        accepted(kv_insert(LENT, session, HANDED_IN));
+        accepted(kv_insert(KV_ALL(t), session, HANDED_IN));
     }
-    int end = (int)accepted(kv_commit(LENT, session)).b;
+    int end = (int)accepted(kv_commit(KV_ALL(t), session)).b;
     rows made = {.count = 0};
     for (int row = end - count; row < end; row++) {
         made.row[made.count++] = row;
@@ -62,8 +67,8 @@ static rows hand_in(uint64_t session, int count) {
 
 /* The rows in a state, as the session sees them. */
 static rows worklist(uint64_t session, uint64_t state) {
-    kv_answer answer = accepted(kv_query(LENT, scratch, KV_SCRATCH, session, state, KV_THRESHOLD));
-    const uint64_t *found = answer.c == 0 ? scratch : words + 32 * (answer.c - 1);
+    kv_answer answer = accepted(kv_query(KV_ALL(t), scratch, KV_SCRATCH, session, state, KV_THRESHOLD));
+    const uint64_t *found = answer.c == 0 ? scratch : t.words + 32 * (answer.c - 1);
     rows list = {.count = 0};
     for (int row = 0; row < MOST_ROWS; row++) {
         if (found[row / 64] >> (row % 64) & 1) {
@@ -79,74 +84,96 @@ static rows mark(uint64_t session, const rows *wanted, const int *state) {
     for (;;) {
         rows moved = {.count = 0};
         for (int i = 0; i < wanted->count; i++) {
-            kv_answer held = accepted(kv_read(LENT, session, wanted->row[i]));
+            kv_answer held = accepted(kv_read(KV_ALL(t), session, wanted->row[i]));
             if (held.kind == KV_VALUE && held.a == IN_HAND) {
-                accepted(kv_update(LENT, session, wanted->row[i], state[i]));
+                accepted(kv_update(KV_ALL(t), session, wanted->row[i], state[i]));
                 moved.row[moved.count++] = wanted->row[i];
             }
         }
         if (moved.count == 0) {
-            accepted(kv_abort(LENT, session));
+            accepted(kv_abort(KV_ALL(t), session));
             return moved;
         }
-        kv_answer answer = kv_commit(LENT, session);
-        if (answer.refusal != CONFLICT) {
+        kv_answer answer = kv_commit(KV_ALL(t), session);
+        if (answer.refusal != KV_CONFLICT) {
             accepted(answer);
             return moved;
         }
         printf("  session %d: conflict, once more\n", (int)session);
-        accepted(kv_abort(LENT, session));
-        accepted(kv_begin(LENT, session));
+        open_anew(session);
     }
 }
 
-/* Every value tidied, each from a snapshot of its own; what has nothing to move, or was overtaken, waits for the next night. */
+/* At 16, 17 and 18 the index takes no more. It goes on, with all its room, once it is created again from its own rows, which keep
+ * their numbers. Every session is freed by it. The tables that are made anew are others, until they are whole. */
+static uint32_t create_again(void) {
+    static kv_tables made;
+    static uint8_t column[MOST_ROWS];
+    uint32_t count = open_anew(READER).b;
+    memset(column, KV_ABSENT, sizeof column);
+    for (int state = STATES - 1; state >= 0; state--) {
+        rows list = worklist(READER, (uint64_t)state);
+        for (int i = 0; i < list.count; i++) {
+            column[list.row[i]] = (uint8_t)state;
+        }
+    }
+    accepted(kv_create(KV_ALL(made), STATES, column, count));
+    t = made;
+    return count;
+}
+
+/* Every value tidied, each from a snapshot of its own; what has nothing to move, or was overtaken, waits for the next night. Where
+ * there is no room for a tidy the index is created again, which folds everything. */
 static void night(void) {
     for (uint64_t value = 0; value < STATES; value++) {
-        accepted(kv_begin(LENT, NIGHT));
-        kv_answer answer = kv_tidy(LENT, NIGHT, value);
-        if (answer.refusal == NOTHING_TO_MOVE || answer.refusal == STALE) {
+        open_anew(NIGHT);
+        kv_answer answer = kv_tidy(KV_ALL(t), NIGHT, value);
+        if (answer.refusal == KV_RECORDS_FULL || answer.refusal == KV_CHANGES_FULL || answer.refusal == KV_SLOTS_FULL) {
+            printf("  %s: created again, %u rows\n", kv_sentence(answer.refusal), create_again());
+            return;
+        }
+        if (answer.refusal == KV_NOTHING_TO_MOVE || answer.refusal == KV_STALE) {
             printf("  %s: nothing to fold\n", names[value]);
         } else {
             accepted(answer);
             printf("  %s: %u rows folded in at stamp %u\n", names[value], answer.b, answer.a);
         }
-        accepted(kv_abort(LENT, NIGHT));
+        accepted(kv_abort(KV_ALL(t), NIGHT));
     }
 }
 
 /* Where every crown is, on a snapshot of this moment. */
 static void show(void) {
-    accepted(kv_begin(LENT, READER));
+    open_anew(READER);
     for (uint64_t state = 0; state < STATES; state++) {
         rows list = worklist(READER, state);
         printf("  %s", names[state]);
         print_rows(": ", &list);
         printf("\n");
     }
-    accepted(kv_abort(LENT, READER));
+    accepted(kv_abort(KV_ALL(t), READER));
 }
 
 /* Three crowns are there, five are handed in, two markers work at once, and the night tidies. */
 int main(void) {
     const uint8_t column[] = {HANDED_IN, HANDED_IN, PASSED};
-    printf("column: %u rows\n", accepted(kv_create(LENT, STATES, column, sizeof column)).a);
+    printf("column: %u rows\n", accepted(kv_create(KV_ALL(t), STATES, column, sizeof column)).a);
     rows made = hand_in(0, 5);
     print_rows("handed in: rows ", &made);
 
-    accepted(kv_begin(LENT, 1));
+    open_anew(1);
     rows taken = worklist(1, HANDED_IN);
     taken.count = 4;
     for (int i = 0; i < taken.count; i++) {
-        accepted(kv_update(LENT, 1, taken.row[i], IN_HAND));
+        accepted(kv_update(KV_ALL(t), 1, taken.row[i], IN_HAND));
     }
-    kv_answer answer = accepted(kv_commit(LENT, 1));
+    kv_answer answer = accepted(kv_commit(KV_ALL(t), 1));
     print_rows("\nmarker 1 takes ", &taken);
     printf(" at stamp and rows [%u, %u]\n", answer.a, answer.b);
 
     printf("both markers mark, each on a snapshot of the same moment\n");
-    accepted(kv_begin(LENT, 1));
-    accepted(kv_begin(LENT, 2));
+    open_anew(1);
+    open_anew(2);
     const rows own = {2, {taken.row[0], taken.row[1]}}, other = {3, {taken.row[1], taken.row[2], taken.row[3]}};
     rows first = mark(1, &own, (const int[]){PASSED, REFERRED});
     rows second = mark(2, &other, (const int[]){PASSED, PASSED, REFERRED});

@@ -63,8 +63,8 @@ fn line_in(
         wish,
     );
     let answer = d.answer;
-    let len = answers::put_line(out, answer, words, scratch);
     let at = d.at;
+    let len = answers::put_line(out, answer, words, scratch);
     Lined {
         len: len,
         sessions: Sessions { at: at },
