@@ -1,10 +1,10 @@
 """The archive against the second program, at the level of cells: every answer and every cell, after each call.
 
-    python3 tests/cells.py --calls N --seed S [--driver PROGRAM | --archive FILE]
+    python3 tests/cells.py --calls N --seed S [--driver COMMAND | --archive FILE]
 
 Builds tests/cells.c with the archive (target/staticlib/libkerenvuf.a unless told otherwise), makes the calls of
 second/cells_runs.py through it, first those that are always the same, and compares with second/cells.py. Stops at the first difference, with the seed, the
-call and the cells. Where the archive is for another machine, --driver names what runs the built driver.
+call and the cells. On another machine than the archive's see tests/machine.py.
 """
 
 import argparse
@@ -21,6 +21,7 @@ ROOT = os.path.dirname(HERE)
 sys.path.insert(0, os.path.join(ROOT, "second"))
 
 import cells_runs  # noqa: E402
+import machine  # noqa: E402
 
 CALLS = ("create", "begin", "query", "read", "update", "delete", "insert", "commit", "tidy", "abort", "picked")
 # 01's table of refusals, by call: a run of ten thousand calls is to reach each
@@ -135,11 +136,11 @@ def compare(driver, seed, count, counts):
 
 
 def build(archive, into):
-    """The driver, linked with the archive; the folder of the header is include/."""
+    """The command of the driver, linked with the archive; the folder of the header is include/."""
     program = os.path.join(into, "cells")
-    subprocess.run([os.environ.get("CC", "cc"), "-O1", "-Wall", "-Wextra", "-I", os.path.join(ROOT, "include"), "-o", program,
+    subprocess.run([machine.CC, *machine.LINKED, "-O1", "-Wall", "-Wextra", "-I", os.path.join(ROOT, "include"), "-o", program,
                     os.path.join(HERE, "cells.c"), archive], check=True)
-    return program
+    return machine.running(program)
 
 
 def summary(counts):
@@ -162,7 +163,7 @@ def main():
     given = parser.parse_args()
     counts = Counter()
     with tempfile.TemporaryDirectory() as folder:
-        driver = Driver(given.driver or [build(given.archive, folder)])
+        driver = Driver(given.driver or build(given.archive, folder))
         asked = [("fixed", None)]
         asked += [(given.seed + i, min(given.each, given.calls - i * given.each)) for i in range(-(-given.calls // given.each))]
         for seed, count in asked:

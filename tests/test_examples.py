@@ -18,6 +18,7 @@ PROGRAM = os.environ.get("STEPS", "").split()
 SECOND = [sys.executable, "-B", os.path.join(ROOT, "second", "steps.py")]
 sys.path.insert(0, EXAMPLES)
 
+import machine  # noqa: E402
 import marking  # noqa: E402
 
 
@@ -78,9 +79,9 @@ class Examples(unittest.TestCase):
         """The same evening over the archive."""
         with tempfile.TemporaryDirectory() as folder:
             program = os.path.join(folder, "marking")
-            subprocess.run(["cc", "-std=c99", "-Wall", "-Wextra", "-Werror", "-pedantic", "-O2", "-I", os.path.join(ROOT, "include"),
+            subprocess.run([machine.CC, *machine.LINKED, "-std=c99", "-Wall", "-Wextra", "-Werror", "-pedantic", "-O2", "-I", os.path.join(ROOT, "include"),
                             os.path.join(EXAMPLES, "marking.c"), os.environ["ARCHIVE"], "-o", program], check=True)
-            self.assertEqual(printed([program]), wanted("marking.out"))
+            self.assertEqual(printed(machine.running(program)), wanted("marking.out"))
 
 
 class Survive(unittest.TestCase):

@@ -3,7 +3,6 @@ are one, and are the code's. A refusal that is forgotten in one of the places fa
 
 import ast
 import os
-import platform
 import re
 import subprocess
 import sys
@@ -14,11 +13,11 @@ ROOT = os.path.dirname(os.path.dirname(os.path.abspath(__file__)))
 sys.path.insert(0, os.path.join(ROOT, "python"))
 
 import kerenvuf  # noqa: E402
+import machine  # noqa: E402
 
 ARCHIVE = os.environ.get("ARCHIVE", os.path.join(ROOT, "target", "staticlib", "libkerenvuf.a"))
 STRICT = ["-Wall", "-Wextra", "-Werror", "-pedantic", "-O1"]
-WHY = "not run: the archive links into x86-64 programs only"
-LANGUAGES = (["cc", "-std=c99"], ["g++", "-x", "c++", "-std=c++17"])
+LANGUAGES = ([machine.CC, "-std=c99"], [machine.CXX, "-x", "c++", "-std=c++17"])
 
 
 def page(*path):
@@ -33,8 +32,8 @@ def printed(language, calls):
         program = os.path.join(folder, "header")
         linked = ["-DCALLS", "-x", "none", ARCHIVE] if calls else []
         source = os.path.join(ROOT, "tests", "header.c")
-        subprocess.run([*language, *STRICT, "-I", os.path.join(ROOT, "include"), source, *linked, "-o", program], check=True)
-        return subprocess.run([program], stdout=subprocess.PIPE, text=True, check=True).stdout.splitlines()
+        subprocess.run([*language, *machine.LINKED, *STRICT, "-I", os.path.join(ROOT, "include"), source, *linked, "-o", program], check=True)
+        return subprocess.run(machine.running(program), stdout=subprocess.PIPE, text=True, check=True).stdout.splitlines()
 
 
 def python_table():
@@ -65,7 +64,6 @@ class Header(unittest.TestCase):
             self.assertIn(f"all {kerenvuf.SIZE}", said)
             self.assertIn(f"version {kerenvuf.VERSION} {kerenvuf.VERSION} layout {kerenvuf.LAYOUT}", said)
 
-    @unittest.skipUnless(platform.machine() == "x86_64", WHY)
     def test_null_pointers(self):
         """A null pointer with length 0: a table 1, a scratch 10, a column one of no rows, the picker 0."""
         wanted = ["create of no column 0 rows 0", "begin 0", "query without a scratch 10",
@@ -112,6 +110,4 @@ class Places(unittest.TestCase):
 
 
 if __name__ == "__main__":
-    if platform.machine() != "x86_64":
-        print("null pointers", WHY)
     unittest.main()
