@@ -1,6 +1,6 @@
 -- The tables that the stores of a commit and of a tidy leave, table by table.
 -- Assumes nothing.
-use mathlib.Core.Path.{_≡_, refl}
+use mathlib.Core.Path.{_≡_}
 use mathlib.Core.List.{List, [], _∷_, _++_}
 use Prim.Native.Nat.{ℕ, _+_, _*_}
 use lib.ListN.{length, set}
@@ -14,9 +14,9 @@ use Rattle.tables.specs.Cells.{Tables, tables, stampIn, rowsIn, slotsIn, change
 use Rattle.tables.specs.Sessions.{freed}
 use Rattle.tables.specs.Stores.{putSlot, putHead, putRecord}
 use Rattle.tables.specs.Meaning.{meaning, entries}
-use Rattle.calls.specs.Stores.{clockCell, slotCell, headCell, seat, stores, wordStores}
-use Rattle.calls.specs.Calls.{own, commitRows, commitStores, tidyStores}
-use Rattle.follow.proofs.Stores.{putChanges, version-stores, log-stores}
+use Rattle.calls.specs.Stores.{clockCell, slotCell, headCell, stores, wordStores, putChanges}
+use Rattle.calls.specs.Calls.{own, commitRows, tidyStores}
+use Rattle.calls.proofs.StoreLaws.{version-stores, log-stores}
 
 -- ---- commit
 
@@ -38,11 +38,6 @@ module _ (t : Tables) (n : ℕ) where
   committed =
       tables commitClock (t .slots) (t .words) (t .heads) (putRecord (t .log) (stampIn (t .clock)) 1 (commitRows t n) commitEnd)
       (putChanges (t .changes) (changesIn (t .clock)) committedChanges) (set (t .sessions) n freed)
-
-  pub commit-stores : stores t (commitStores t n) ≡ committed
-  commit-stores =
-      log-stores t t [] (clockCell 2 (stampIn (t .clock) + 1) ∷ clockCell 3 (commitRows t n) ∷ clockCell 5 commitEnd ∷ seat n freed ∷ []) refl
-      (changesIn (t .clock)) committedChanges (stampIn (t .clock)) 1 (commitRows t n) commitEnd
 
 -- ---- tidy
 

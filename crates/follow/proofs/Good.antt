@@ -13,7 +13,7 @@ use Rattle.tables.specs.Cells.{Tables, tables, valuesIn, firstIn, stampIn}
 use Rattle.tables.specs.Sessions.{freed, sessionAt}
 use Rattle.tables.specs.Damage.{sessionFits, sessionsFit}
 use Rattle.tables.proofs.Facts.{Room, room-facts, room-made, Parts, parts, whole}
-use Rattle.tables.proofs.Sessions.{Typed, ZeroFacts, OpenFacts, each-session, sessions-made, session-made, freed-zero}
+use Rattle.tables.proofs.Sessions.{ZeroFacts, OpenFacts, each-session, sessions-made, session-made, freed-zero}
 use Rattle.follow.specs.Good.{Wide, AllWide, Good}
 
 -- the facts that come with them
@@ -23,10 +23,6 @@ module _ (t : Tables) (g : Good t) where
 
   pub good-parts : Parts t
   good-parts = parts t (g .whole)
-
--- what the types give is enough
-pub typed-wide : (t : Tables) → Typed t → AllWide (t .sessions)
-typed-wide t y i l = record { at-wide = y .at-cells i; to-wide = y .to-cells i }
 
 -- ---- one session stored
 

@@ -15,8 +15,9 @@ use Rattle.tables.specs.Stretch.{stretch}
 use Rattle.tables.specs.Meaning.{changeAt, kindOf, recordAt}
 use Rattle.tables.specs.Damage.{changesFit}
 use Rattle.tables.proofs.Stores.{log-grown}
-use Rattle.follow.proofs.Stores.{putChanges}
-use Rattle.follow.proofs.NewChanges.{changes-before, changes-put}
+use Rattle.calls.specs.Stores.{putChanges}
+use Rattle.calls.proofs.StoreLaws.{changes-before}
+use Rattle.follow.proofs.NewChanges.{changes-put}
 use Rattle.follow.proofs.NewRecord.{newLog, NextRecord, changes-later}
 
 -- the last record of a log that fits

@@ -14,7 +14,6 @@ pub mod Update
 pub mod Delete
 pub mod Insert
 pub mod Abort
-pub mod Stores
 pub mod CallStores
 pub mod NewChanges
 pub mod NewClock

@@ -1,8 +1,8 @@
 -- Changes put from a place on: those before it stay, and the stretch from there on is the changes put.
 -- Assumes nothing.
-use mathlib.Core.Path.{_≡_, refl, sym, ap₂, _∙_}
+use mathlib.Core.Path.{_≡_, sym, ap₂, _∙_}
 use mathlib.Core.List.{List, [], _∷_}
-use Prim.Native.Nat.{ℕ, suc, _+_, _≤_, _<_}
+use Prim.Native.Nat.{ℕ, suc, _+_, _≤_}
 use native.Mathlib.Numerals.{add-one}
 use native.Mathlib.Omega.{arith}
 use lib.ListN.{length}
@@ -11,21 +11,9 @@ use Rattle.tables.specs.Stores.{putChange}
 use Rattle.tables.specs.Stretch.{stretch}
 use Rattle.tables.specs.Meaning.{changeAt}
 use Rattle.tables.proofs.Stretch.{stretch-none, stretch-front}
-use Rattle.tables.proofs.Stores.{length-change, put-change, kept-change}
-use Rattle.follow.proofs.Stores.{putChanges}
-
-pub length-changes : (l : List ℕ) (p : ℕ) (cs : List Change) → length (putChanges l p cs) ≡ length l
-unfolding putChanges
-length-changes l p [] = refl
-length-changes l p (c ∷ cs) = length-changes (putChange l p (c .row) (c .flips)) (p + 1) cs ∙ length-change l p (c .row) (c .flips)
-
--- the changes before
-pub changes-before : (l : List ℕ) (p : ℕ) (cs : List Change) → p + length cs ≤ 2048 → (q : ℕ) → q < p → changeAt (putChanges l p cs) q ≡ changeAt l q
-unfolding putChanges
-changes-before l p [] h q m = refl
-changes-before l p (c ∷ cs) h q m =
-    changes-before (putChange l p (c .row) (c .flips)) (p + 1) cs (omega arith) q (omega arith)
-    ∙ kept-change l p (c .row) (c .flips) (omega arith) q (omega arith) (λ e. omega arith)
+use Rattle.tables.proofs.Stores.{length-change, put-change}
+use Rattle.calls.specs.Stores.{putChanges}
+use Rattle.calls.proofs.StoreLaws.{changes-before}
 
 -- the changes put
 pub changes-put : (l : List ℕ) (p : ℕ) (cs : List Change) → p + length cs ≤ 2048 → 4096 ≤ length l → stretch (changeAt (putChanges l p cs)) p (p + length cs) ≡ cs

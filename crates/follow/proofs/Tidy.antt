@@ -34,13 +34,13 @@ use Rattle.calls.specs.Said.{numbers}
 use Rattle.calls.specs.Stores.{stores}
 use Rattle.calls.specs.Outcome.{outcome}
 use Rattle.calls.specs.Calls.{own, tidyStores, tidyOf}
+use Rattle.calls.proofs.StoreLaws.{length-changes}
 use Rattle.follow.specs.Good.{Good}
 use Rattle.follow.proofs.Good.{good-room, good-parts}
 use Rattle.follow.specs.Follows.{Follows}
 use Rattle.follow.proofs.Follows.{follows}
 use Rattle.follow.proofs.Seated.{value-low, Open, open-seat}
 use Rattle.follow.proofs.CallStores.{tidiedChanges, tidyEnd, tidyClock, tidySlots, tidyVector, tidyWords, tidied, tidy-stores}
-use Rattle.follow.proofs.NewChanges.{length-changes}
 use Rattle.follow.proofs.NewClock.{tidy-clock, few-records, few-changes, few-slots, clock-later}
 use Rattle.follow.proofs.NewRecord.{newLog, NextRecord, rows-new, records-later, sessions-later}
 use Rattle.follow.proofs.Grown.{last-fits, grown-means, grown-changes}
