@@ -17,7 +17,8 @@ use Rattle.calls.specs.Said.{Said, no, numbers, value, words}
 use Rattle.calls.specs.Outcome.{Outcome, refusalAt, refusalOfCreate, unless}
 use Rattle.calls.specs.Calls.{own, beginning, createOf, beginOf, readOf, updateOf, deleteOf, insertOf, commitOf, tidyOf, abortOf}
 use Rattle.calls.specs.Query.{flipsSeen, asked, queryOf}
-use Rattle.demands.specs.Asks.{Ask, create, begin, query, read, update, delete, insert, commit, tidy, abort, callOf, buffersOf, comesTo}
+use Rattle.demands.specs.Asks.{Ask, create, begin, query, read, update, delete, insert, commit, tidy, abort, callOf, buffersOf}
+use Rattle.demands.specs.Asks.{comesTo}
 use Rattle.demands.specs.Conditions.{noRoom, damaged, conditions}
 
 -- an answer that is a refusal's number

@@ -32,15 +32,12 @@ use Rattle.calls.specs.Outcome.{outcome}
 use Rattle.calls.specs.Calls.{own, commitRows, commitStores, commitOf}
 use Rattle.calls.proofs.StoreLaws.{commit-stores, length-changes}
 use Rattle.follow.specs.Good.{Good}
-use Rattle.follow.proofs.Good.{good-room, good-parts, sessions-set, all-wide-set, freed-wide}
+use Rattle.follow.proofs.Good.{good-room, good-parts, sessions-set, all-wide-set, freed-wide, follows, Open, open-seat}
 use Rattle.follow.specs.Follows.{Follows}
-use Rattle.follow.proofs.Follows.{follows}
-use Rattle.follow.proofs.Seated.{Open, open-seat}
 use Rattle.follow.proofs.CallStores.{committedChanges, commitEnd, commitClock, committed}
-use Rattle.follow.proofs.NewClock.{commit-clock, few-records, few-changes, clock-later}
-use Rattle.follow.proofs.NewRecord.{newLog, NextRecord, records-later, sessions-later}
-use Rattle.follow.proofs.Grown.{last-fits, grown-means, grown-changes}
-use Rattle.follow.proofs.OldSlots.{same-slots, slots-later, heads-later, vectors-later}
+use Rattle.follow.proofs.NewRecord.{commit-clock, few-records, few-changes, clock-later, newLog, NextRecord, records-later}
+use Rattle.follow.proofs.NewRecord.{sessions-later, last-fits, grown-means, grown-changes}
+use Rattle.follow.proofs.NewSlot.{same-slots, slots-later, heads-later, vectors-later}
 
 -- what an accepted commit has: an open session, and room for its record
 record Fits (t : Tables) (n : ℕ) : Type 0 where

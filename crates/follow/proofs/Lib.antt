@@ -1,26 +1,13 @@
 -- The step theorems: what they share, and each call.
 -- Assumes nothing.
 pub mod Good
-pub mod Follows
-pub mod Seated
 pub mod Listed
-pub mod Relisted
-pub mod Fresh
 pub mod Create
-pub mod Begin
 pub mod Query
-pub mod Read
 pub mod Update
-pub mod Delete
-pub mod Insert
-pub mod Abort
+pub mod Begin
 pub mod CallStores
-pub mod NewChanges
-pub mod NewClock
 pub mod NewRecord
-pub mod Grown
-pub mod OldSlots
 pub mod NewSlot
-pub mod NewChains
 pub mod Commit
 pub mod Tidy

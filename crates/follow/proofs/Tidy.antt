@@ -36,17 +36,13 @@ use Rattle.calls.specs.Outcome.{outcome}
 use Rattle.calls.specs.Calls.{own, tidyStores, tidyOf}
 use Rattle.calls.proofs.StoreLaws.{length-changes}
 use Rattle.follow.specs.Good.{Good}
-use Rattle.follow.proofs.Good.{good-room, good-parts}
+use Rattle.follow.proofs.Good.{good-room, good-parts, follows, value-low, Open, open-seat}
 use Rattle.follow.specs.Follows.{Follows}
-use Rattle.follow.proofs.Follows.{follows}
-use Rattle.follow.proofs.Seated.{value-low, Open, open-seat}
 use Rattle.follow.proofs.CallStores.{tidiedChanges, tidyEnd, tidyClock, tidySlots, tidyVector, tidyWords, tidied, tidy-stores}
-use Rattle.follow.proofs.NewClock.{tidy-clock, few-records, few-changes, few-slots, clock-later}
-use Rattle.follow.proofs.NewRecord.{newLog, NextRecord, rows-new, records-later, sessions-later}
-use Rattle.follow.proofs.Grown.{last-fits, grown-means, grown-changes}
-use Rattle.follow.proofs.OldSlots.{slots-later, heads-later, vectors-later}
-use Rattle.follow.proofs.NewSlot.{NextSlot, slots-same, new-stamp, new-words, new-slot, new-head}
-use Rattle.follow.proofs.NewChains.{newVersion, chains-mean}
+use Rattle.follow.proofs.NewRecord.{tidy-clock, few-records, few-changes, few-slots, clock-later, newLog, NextRecord, rows-new}
+use Rattle.follow.proofs.NewRecord.{records-later, sessions-later, last-fits, grown-means, grown-changes}
+use Rattle.follow.proofs.NewSlot.{slots-later, heads-later, vectors-later, NextSlot, slots-same, new-stamp, new-words, new-slot}
+use Rattle.follow.proofs.NewSlot.{new-head, newVersion, chains-mean}
 
 -- a change for each moved row
 tidy-size : (log : Log) (s v : ℕ) → length (tidyChanges log s v) ≡ length (moved log s v)
