@@ -26,9 +26,10 @@ use Rattle.tables.proofs.Stores.{begun-means, freed-means}
 use Rattle.calls.specs.Said.{numbers}
 use Rattle.calls.specs.Outcome.{outcome}
 use Rattle.calls.specs.Calls.{own, reseated, beginning, beginOf, abortOf}
+use Rattle.calls.proofs.Entered.{seat-means}
 use Rattle.follow.specs.Good.{Good, Wide}
 use Rattle.follow.specs.Follows.{Follows}
-use Rattle.follow.proofs.Good.{good-parts, good-seated, good-freed, Meets, meets-by, follows, place-low, session-is, seated-means}
+use Rattle.follow.proofs.Good.{good-parts, good-seated, good-freed, Meets, meets-by, follows, place-low, seated-means}
 use Rattle.follow.proofs.Good.{open-seat}
 
 -- the session that begin opens
@@ -65,7 +66,7 @@ module _ (t : Tables) (g : Good t) (n : ℕ) where
   unfolding effect beginning
   again l v =
       meets-by t (begin n) (beginning t n x) (outcome t [] (numbers (x .start .0 ∷ x .rows .0 ∷ []))) (meaning t) (ok (x .start .0 ∷ x .rows .0 ∷ []))
-      (rw (eq-eqb (x .live) 1 v)) (ap (rules.beginning (meaning t) n) (session-is t n l ∙ open-means x v)) refl refl g
+      (rw (eq-eqb (x .live) 1 v)) (ap (rules.beginning (meaning t) n) (seat-means t n ∙ open-means x v)) refl refl g
 
   -- a free one is opened
   anew : n < 16 → (x .live ≡ 1 → ⊥) → Meets t (begin n) (beginning t n x)
@@ -73,7 +74,7 @@ module _ (t : Tables) (g : Good t) (n : ℕ) where
   anew l v =
       meets-by t (begin n) (beginning t n x) (outcome (reseated t n (new t)) [] (numbers (stampIn (t .clock) ∷ rowsIn (t .clock) ∷ [])))
       (seated (meaning t) n (opened (stampOf (meaning t .log)) (meaning t .rows) [])) (ok (stampOf (meaning t .log) ∷ meaning t .rows ∷ []))
-      (rw (ne-eqb (x .live) 1 v)) (ap (rules.beginning (meaning t) n) (session-is t n l ∙ free-means x v))
+      (rw (ne-eqb (x .live) 1 v)) (ap (rules.beginning (meaning t) n) (seat-means t n ∙ free-means x v))
       (seated-means t n l g (new t) ∙ ap (seated (meaning t) n) (new-means t)) (rw (stamp-means t, rows-means t)) (good-seated t n (new t) g (new-wide t) (inr (new-fits t g)))
 
   pub begin-follows : Follows t (begin n) (beginOf t n)

@@ -100,20 +100,10 @@ module _ (t : Tables) (C : ℕ) (col : Column) (f : Fresh t C col) where
   fresh-parts low high rows =
       let c = t .clock in
       record {
-        clock-fits =
-            clock-made c
-            record {
-              values-low = omega (arith, f .values-are);
-              values-high = omega (arith, f .values-are);
-              rows-high = omega (arith, f .rows-are);
-              first-high = omega (arith, f .first-are);
-              stamp-high = omega (arith, f .stamp-is);
-              slots-low = omega (arith, f .values-are, f .slots-are);
-              slots-high = omega (arith, f .slots-are, slots-enough);
-              changes-high = omega (arith, f .changes-are);
-            };
+        clock-fits = clock-made c (omega (arith, f, slots-enough));
         records-fit =
-            records-made c (t .log) (λ k l. absurd (omega (arith, f .stamp-is))) (rw (f .stamp-is, f .changes-are)) (rw (f .stamp-is, f .first-are, f .rows-are));
+            records-made c (t .log) (λ k l. absurd (omega (arith, f .stamp-is))) (rw (f .stamp-is, f .changes-are))
+            (rw (f .stamp-is, f .first-are, f .rows-are));
         changes-fit = changes-made c (t .log) (t .changes) (λ k p l. absurd (omega (arith, f .stamp-is)));
         slots-fit =
             slots-made c (t .slots)

@@ -1,12 +1,13 @@
 -- What good tables have, and what keeps them good when one session is stored; the session that a call is for; and the one lemma
 -- that settles the refusals of every call. Assumes nothing.
-use mathlib.Core.Path.{_≡_, ap, _∙_, refl}
-use mathlib.Core.Bool.{true, Bool, false, cond}
+use mathlib.Core.Path.{_≡_, _∙_, refl}
+use mathlib.Core.Bool.{true, false}
 use mathlib.Core.List.{List}
 use mathlib.Core.Logic.{_⊎_, inl, inr}
 use mathlib.Core.Option.{Option, none, some}
 use Prim.Native.Nat.{ℕ, _≤_, _<_}
-use borrow.Author.Tests.{leb-false, lt-ltb}
+use borrow.Author.Tests.{leb-false}
+use native.Mathlib.Omega.{arith}
 use lib.ListN.{length, set, length-set, length-replicate}
 use lib.Seq.{getD-set-same, getD-set-other, set-out}
 use lib.Dec.{leb}
@@ -27,11 +28,11 @@ use Rattle.tables.specs.Damage.{sessionFits, sessionsFit}
 use Rattle.tables.specs.Meaning.{entries, sessionOf, meaning}
 use Rattle.tables.proofs.Facts.{Room, room-facts, room-made, Parts, parts, whole}
 use Rattle.tables.proofs.Sessions.{ZeroFacts, OpenFacts, each-session, sessions-made, session-made, freed-zero, open-at}
-use Rattle.tables.proofs.Means.{values-means, session-means, open-means, live-means}
+use Rattle.tables.proofs.Means.{values-means, open-means, live-means}
 use Rattle.tables.proofs.Stores.{session-put}
 use Rattle.tables.proofs.Undamaged.{means-undamaged}
-use Rattle.lent.specs.Places.{seatAt}
 use Rattle.calls.specs.Calls.{own, reseated}
+use Rattle.calls.proofs.Entered.{seat-means, seat-there}
 use Rattle.calls.specs.Outcome.{Outcome, refusalAt, unless}
 use Rattle.follow.specs.Good.{Wide, AllWide, Good}
 use Rattle.follow.specs.Heard.{heard}
@@ -80,31 +81,10 @@ good-seated t i x g w f =
     let after : Tables = tables (t .clock) (t .slots) (t .words) (t .heads) (t .log) (t .changes) (set (t .sessions) i x) in
     let r = good-room t g in
     let p = good-parts t g in
+    let z = sessions-set (t .clock) (t .log) (t .sessions) i x (p .sessions-fit) (session-made _ _ _ _ x f) in
     record {
-      room =
-          room-made after
-          record {
-            clock-room = r .clock-room;
-            slots-room = r .slots-room;
-            words-room = r .words-room;
-            heads-room = r .heads-room;
-            log-room = r .log-room;
-            changes-room = r .changes-room;
-            sessions-room = rw (length-set (t .sessions) i x) (r .sessions-room);
-          };
-      whole =
-          whole after
-          record {
-            clock-fits = p .clock-fits;
-            records-fit = p .records-fit;
-            changes-fit = p .changes-fit;
-            slots-fit = p .slots-fit;
-            heads-fit = p .heads-fit;
-            vectors-fit = p .vectors-fit;
-            sessions-fit =
-                sessions-set (t .clock) (t .log) (t .sessions) i x (p .sessions-fit)
-                (session-made (valuesIn (t .clock)) (firstIn (t .clock)) (stampIn (t .clock)) (t .log) x f);
-          };
+      room = room-made after (omega (arith, r, length-set (t .sessions) i x));
+      whole = whole after (search);
       wide = all-wide-set (t .sessions) i x (g .wide) w;
     }
 
@@ -122,23 +102,13 @@ place-low n e = leb-false 16 n e
 pub value-low : (t : Tables) (v : ℕ) → leb (meaning t .values) v ≡ false → v < valuesIn (t .clock)
 value-low t v e = leb-false (valuesIn (t .clock)) v (rw (values-means t) at e)
 
-module _ (t : Tables) (n : ℕ) (l : n < 16) where
-  pub own-is : own t n ≡ sessionAt (t .sessions) n
-  unfolding seatAt
-  own-is = ap (λ (b : Bool). cond b (sessionAt (t .sessions) n) freed) (lt-ltb n 16 l)
-
-  -- the session of the rules
-  pub session-is : session (meaning t) n ≡ sessionOf (own t n)
-  session-is = rw own-is (session-means t n l)
-
-  -- another session at the place
-  pub seated-means : Good t → (x : Session) → meaning (reseated t n x) ≡ seated (meaning t) n (sessionOf x)
-  seated-means g x = session-put t n x l (good-room t g .sessions-room)
+-- another session at the place
+pub seated-means : (t : Tables) (n : ℕ) → n < 16 → Good t → (x : Session) → meaning (reseated t n x) ≡ seated (meaning t) n (sessionOf x)
+seated-means t n l g x = session-put t n x l (good-room t g .sessions-room)
 
 -- 5 fails: the session is open
 pub record Open (t : Tables) (n : ℕ) : Type 0 where
   pub place : n < 16
-  pub live : own t n .live ≡ 1
   pub means : session (meaning t) n ≡ opened (own t n .start .0) (own t n .rows .0) (entries (own t n))
   pub facts : OpenFacts (valuesIn (t .clock)) (firstIn (t .clock)) (stampIn (t .clock)) (t .log) (own t n)
   pub wide : Wide (own t n)
@@ -146,13 +116,12 @@ pub record Open (t : Tables) (n : ℕ) : Type 0 where
 pub open-seat : (t : Tables) (n : ℕ) → Good t → leb maxSessions n ≡ false → isFree (session (meaning t) n) ≡ false → Open t n
 open-seat t n g e f =
     let l = place-low n e in
-    let v : own t n .live ≡ 1 = live-means (own t n) (rw (session-is t n l) at f) in
+    let v : own t n .live ≡ 1 = live-means (own t n) (rw (seat-means t n) at f) in
     record {
       place = l;
-      live = v;
-      means = session-is t n l ∙ open-means (own t n) v;
-      facts = rw (own-is t n l) (open-at (t .clock) (t .log) (t .sessions) (good-parts t g .sessions-fit) n l (rw (own-is t n l) at v));
-      wide = rw (own-is t n l) (g .wide n l);
+      means = seat-means t n ∙ open-means (own t n) v;
+      facts = rw (seat-there t n l) (open-at _ _ _ (good-parts t g .sessions-fit) n l (rw (seat-there t n l) at v));
+      wide = rw (seat-there t n l) (g .wide n l);
     }
 
 -- what is known of an accepted call: each of its tests fails, and the rules' next state is undamaged

@@ -6,7 +6,6 @@ pub mod Create
 pub mod Query
 pub mod Update
 pub mod Begin
-pub mod CallStores
 pub mod NewRecord
 pub mod NewSlot
 pub mod Commit

@@ -12,7 +12,7 @@ use native.Mathlib.Nat.{eq-or-lt-of-le, le-of-suc-le-suc}
 use lib.ListN.{length, set}
 use Rattle.bits.specs.Tab.{tab}
 use Rattle.rules.specs.State.{Change, Record, Log}
-use Rattle.rules.specs.Limits.{maxRows, maxSlots, maxRecords, maxChanges}
+use Rattle.rules.specs.Limits.{maxValues, maxRows, maxSlots, maxRecords, maxChanges}
 use Rattle.rules.specs.Log.{grown}
 use Rattle.rules.proofs.Invariant.{ChangesFit, LogFits}
 use Rattle.tables.specs.Stores.{putChange, putRecord}
@@ -75,35 +75,11 @@ tidy-clock c rows slots end =
     six (λ (l : List ℕ). Later l (set (set (set (set l 2 (stampIn l + 1)) 3 rows) 4 slots) 5 end) rows slots end)
     (λ a b c d e f l. record { values-kept = refl; first-kept = refl; stamp-next = refl; rows-now = refl; slots-now = refl; changes-now = refl }) c
 
--- the limits as numbers
-pub few-records : (n : ℕ) → n < maxRecords → n < 512
-unfolding maxRecords
-few-records n h = h
-
-pub few-changes : (n : ℕ) → n ≤ maxChanges → n ≤ 2048
-unfolding maxChanges
-few-changes n h = h
-
-pub few-slots : (n : ℕ) → n < maxSlots → n < 96
-unfolding maxSlots
-few-slots n h = h
-
 -- its sentence of "Damaged tables"
-pub clock-later : (c c′ : List ℕ) (rows slots end : ℕ) → Later c c′ rows slots end → clockFits c ≡ true → rows ≤ maxRows → stampIn c < maxRecords
-    → slotsIn c ≤ slots → slots ≤ maxSlots → end ≤ maxChanges → clockFits c′ ≡ true
-clock-later c c′ rows slots end k p a b d e f =
-    let o = clock-facts c p in
-    clock-made c′
-    record {
-      values-low = omega (arith, o .values-low, k .values-kept);
-      values-high = omega (arith, o .values-high, k .values-kept);
-      rows-high = omega (arith, k .rows-now);
-      first-high = omega (arith, o .first-high, k .first-kept);
-      stamp-high = omega (arith, k .stamp-next);
-      slots-low = omega (arith, o .slots-low, k .values-kept, k .slots-now);
-      slots-high = omega (arith, k .slots-now);
-      changes-high = omega (arith, k .changes-now);
-    }
+pub clock-later : {c c′ : List ℕ} {rows slots end : ℕ} → Later c c′ rows slots end → clockFits c ≡ true → rows ≤ 2048 → stampIn c < 512
+    → slotsIn c ≤ slots → slots ≤ 96 → end ≤ 2048 → clockFits c′ ≡ true
+unfolding maxValues maxRows maxRecords maxSlots maxChanges
+clock-later {c} {c′} k p a b d e f = let o = clock-facts c p in clock-made c′ (omega arith)
 
 -- the log cells with a record after those of the clock c
 abbrev pub newLog : List ℕ → List ℕ → ℕ → ℕ → ℕ → List ℕ

@@ -15,17 +15,24 @@ use Rattle.bits.specs.Tail.{tailClear}
 use Rattle.bits.specs.Part.{part, putPart, part-same, part-other}
 use Rattle.bits.specs.Tab.{tab}
 use Rattle.bits.specs.Words.{bitAt}
-use Rattle.rules.specs.State.{Version, Chain}
-use Rattle.tables.specs.Cells.{valuesIn, firstIn, stampIn, slotsIn, slotValue, slotStamp, slotLink, slotWords, rowsAt, headOf}
+use Rattle.rules.specs.State.{Change, Version, Chain}
+use Rattle.rules.proofs.Invariant.{ChangesFit}
+use Rattle.tables.specs.Cells.{Tables, tables, changesIn, valuesIn, firstIn, stampIn, slotsIn, slotValue, slotStamp, slotLink, slotWords}
+use Rattle.tables.specs.Cells.{rowsAt, headOf}
 use Rattle.tables.specs.Meaning.{versionAt, chainFrom, chainAt}
 use Rattle.tables.specs.Damage.{slotsFit, headsFit, vectorsFit}
 use Rattle.tables.specs.Stores.{putSlot, putHead}
 use Rattle.tables.proofs.Slots.{FirstSlot, LaterSlot, each-first, each-later, slots-made, slot-stamp-low, HeadFacts, heads-made}
 use Rattle.tables.proofs.Slots.{each-vector, vectors-made, each-head, link-falls}
-use Rattle.tables.proofs.Stores.{put-value, put-stamp, put-link, kept-value, kept-stamp, kept-link, put-head, kept-head}
+use Rattle.tables.proofs.Stores.{length-record, put-value, put-stamp, put-link, kept-value, kept-stamp, kept-link, put-head, kept-head}
 use Rattle.tables.proofs.Stretch.{tab-set}
 use Rattle.tables.proofs.Chains.{chain-on, chain-same}
-use Rattle.follow.proofs.NewRecord.{newLog, NextRecord, rows-old}
+use Rattle.tables.proofs.Facts.{room-made, whole, clock-facts, clock-limits}
+use Rattle.calls.specs.Stores.{putChanges}
+use Rattle.calls.proofs.StoreLaws.{length-changes}
+use Rattle.follow.specs.Good.{Good}
+use Rattle.follow.proofs.Good.{good-room, good-parts}
+use Rattle.follow.proofs.NewRecord.{clock-later, records-later, grown-changes, sessions-later, newLog, NextRecord, rows-old}
 
 -- the slots in use as they were
 pub record SameSlots (used : ℕ) (slots words slots′ words′ : List ℕ) : Type 0 where
@@ -247,3 +254,62 @@ module _ {c slots words heads : List ℕ} {v : ℕ} {ws : List ℕ} (k : NextSlo
   chains-mean =
       tab-set [] (chainAt slots words heads) (chainAt (newSlots c slots heads v) (newWords c words ws) (newHeads c heads v)) (valuesIn c) v (k .value-low) chain-other
       ∙ ap (set (tab (chainAt slots words heads) (valuesIn c)) v) chain-own
+
+-- ---- all tables, one record later
+
+-- the slots, words and heads of t as they were, and of `used` slots those after them as they must be
+pub record NewSlots (t : Tables) (c′ log′ slots′ words′ heads′ : List ℕ) (used : ℕ) : Type 0 where
+  pub same : SameSlots (slotsIn (t .clock)) (t .slots) (t .words) slots′ words′
+  pub used-rise : slotsIn (t .clock) ≤ used
+  pub used-few : used ≤ 96
+  pub slots-new : (i : ℕ) → slotsIn (t .clock) ≤ i → i < used → LaterSlot (valuesIn (t .clock)) (stampIn (t .clock) + 1) slots′ i
+  pub heads-new : (v : ℕ) → v < valuesIn (t .clock) → HeadFacts used slots′ heads′ v
+  pub vectors-new : (i : ℕ) → slotsIn (t .clock) ≤ i → i < used
+      → tailClear (slotWords words′ i) (rowsAt (firstIn c′) log′ (slotStamp slots′ i)) ≡ true
+  pub slots-long : length slots′ ≡ length (t .slots)
+  pub words-long : length words′ ≡ length (t .words)
+  pub heads-long : length heads′ ≡ length (t .heads)
+
+module _ (t : Tables) (g : Good t) where
+  -- no slot more
+  pub no-slot : (c′ log′ : List ℕ) → NewSlots t c′ log′ (t .slots) (t .words) (t .heads) (slotsIn (t .clock))
+  no-slot c′ log′ =
+      let p = good-parts t g in
+      record {
+        same = same-slots (slotsIn (t .clock)) (t .slots) (t .words);
+        used-rise = omega arith;
+        used-few = clock-limits (t .clock) (p .clock-fits) .few-slots;
+        slots-new = λ i h l. absurd (omega arith);
+        heads-new = each-head (t .clock) (t .slots) (t .heads) (p .heads-fit);
+        vectors-new = λ i h l. absurd (omega arith);
+        slots-long = refl;
+        words-long = refl;
+        heads-long = refl;
+      }
+
+  -- with a record that fits, the tables stay good
+  pub later-good : {c′ slots′ words′ heads′ : List ℕ} {kind rows used end : ℕ} (k : NextRecord (t .clock) c′ (t .log) kind rows used end)
+      → NewSlots t c′ (newLog (t .clock) (t .log) kind rows end) slots′ words′ heads′ used → length c′ ≡ length (t .clock) → rows ≤ 2048
+      → (cs : List Change) → end ≡ changesIn (t .clock) + length cs → end ≤ 2048 → ChangesFit (valuesIn (t .clock)) rows cs
+      → Good (tables c′ slots′ words′ heads′ (newLog (t .clock) (t .log) kind rows end) (putChanges (t .changes) (changesIn (t .clock)) cs) (t .sessions))
+  later-good {c′} {slots′} {words′} {heads′} {kind} {rows} {used} {end} k n long few cs size low fit =
+      let c = t .clock in
+      let r = good-room t g in
+      let p = good-parts t g in
+      record {
+        room =
+            room-made _
+            (omega (arith, r, n, long, length-record (t .log) (stampIn c) kind rows end, length-changes (t .changes) (changesIn c) cs));
+        whole =
+            whole _
+            record {
+              clock-fits = clock-later (k .later) (p .clock-fits) few (k .stamp-low) (n .used-rise) (n .used-few) low;
+              records-fit = records-later k;
+              changes-fit = grown-changes k (t .changes) cs size low (r .changes-room) (p .changes-fit) fit;
+              slots-fit = slots-later k (n .same) (p .slots-fit) (clock-facts c (p .clock-fits) .slots-low) (n .slots-new);
+              heads-fit = heads-later k (n .same) (p .slots-fit) heads′ (n .heads-new);
+              vectors-fit = vectors-later k (n .same) (p .slots-fit) (p .vectors-fit) (n .vectors-new);
+              sessions-fit = sessions-later k (t .sessions) (p .sessions-fit);
+            };
+        wide = g .wide;
+      }

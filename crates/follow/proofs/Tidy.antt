@@ -2,47 +2,89 @@
 -- Assumes nothing.
 use mathlib.Core.Path.{_≡_, refl, sym, ap, ap₂, _∙_, fun-ext}
 use mathlib.Core.Bool.{Bool, true, false}
-use mathlib.Core.List.{[], _∷_}
+use mathlib.Core.List.{[], _∷_, List, _++_}
 use mathlib.Core.Logic.{inr, ⊎-elim}
 use Prim.Native.Nat.{ℕ, suc, _+_, _*_, _≤_, _<_}
 use native.Mathlib.Numerals.{add-one}
 use native.Mathlib.Omega.{arith}
 use borrow.Author.Tests.{leb-false, ltb-false}
-use lib.ListN.{length, length-set, length-map}
-use lib.Seq.{length-sets}
+use lib.ListN.{length, length-set, length-map, set}
+use lib.Seq.{length-sets, sets}
 use Rattle.bits.specs.Cases.{lt-cases}
 use Rattle.bits.specs.Vec.{vec, length-vec, bitAt-vec}
 use Rattle.bits.specs.Words.{bitAt, bitAt-above}
 use Rattle.bits.specs.Tail.{tailClear, tail-of-bits}
 use Rattle.rules.specs.Limits.{maxRecords, maxChanges, maxSlots}
-use Rattle.rules.specs.State.{Log, Chain, Version, chain}
+use Rattle.rules.specs.State.{Log, Chain, Version, chain, Change}
 use Rattle.rules.specs.Versions.{queried}
 use Rattle.rules.specs.Tidy.{moved, tidyChange, tidyChanges}
 use Rattle.rules.specs.Calls.{tidy}
 use Rattle.rules.specs.Refusals.{tests, AllFail}
 use Rattle.rules.specs.Step.{tidyRecord, tidyVersion, effect}
 use Rattle.rules.specs.Step as rules
-use Rattle.rules.proofs.Invariant.{ChangesFit, Undamaged}
+use Rattle.rules.proofs.Invariant.{Undamaged}
 use Rattle.rules.proofs.Fits.{queried-beyond}
 use Rattle.tables.specs.Cells.{Tables, valuesIn, firstIn, stampIn, rowsIn, slotsIn, changesIn, slotStamp, slotWords, headOf, rowsAt}
+use Rattle.tables.specs.Cells.{tables}
 use Rattle.tables.specs.Meaning.{meaning, chainAt}
-use Rattle.tables.proofs.Facts.{Room, room-made, Parts, whole, clock-limits, clock-facts}
+use Rattle.tables.proofs.Facts.{whole, clock-limits}
 use Rattle.tables.proofs.Means.{values-means, rows-means, stamp-means, slots-means, changes-means, chain-means}
 use Rattle.tables.proofs.Undamaged.{means-undamaged}
-use Rattle.tables.proofs.Stores.{length-slot, length-head, length-record}
+use Rattle.tables.proofs.Stores.{length-slot, length-head}
 use Rattle.calls.specs.Said.{numbers}
-use Rattle.calls.specs.Stores.{stores}
+use Rattle.calls.specs.Stores.{stores, clockCell, slotCell, headCell, wordStores, putChanges}
 use Rattle.calls.specs.Outcome.{outcome}
 use Rattle.calls.specs.Calls.{own, tidyStores, tidyOf}
-use Rattle.calls.proofs.StoreLaws.{length-changes}
+use Rattle.calls.proofs.StoreLaws.{version-stores, log-stores}
 use Rattle.follow.specs.Good.{Good}
 use Rattle.follow.proofs.Good.{good-room, good-parts, follows, value-low, Open, open-seat}
 use Rattle.follow.specs.Follows.{Follows}
-use Rattle.follow.proofs.CallStores.{tidiedChanges, tidyEnd, tidyClock, tidySlots, tidyVector, tidyWords, tidied, tidy-stores}
-use Rattle.follow.proofs.NewRecord.{tidy-clock, few-records, few-changes, few-slots, clock-later, newLog, NextRecord, rows-new}
-use Rattle.follow.proofs.NewRecord.{records-later, sessions-later, last-fits, grown-means, grown-changes}
-use Rattle.follow.proofs.NewSlot.{slots-later, heads-later, vectors-later, NextSlot, slots-same, new-stamp, new-words, new-slot}
-use Rattle.follow.proofs.NewSlot.{new-head, newVersion, chains-mean}
+use Rattle.follow.proofs.NewRecord.{tidy-clock, newLog, NextRecord, rows-new}
+use Rattle.follow.proofs.NewRecord.{last-fits, grown-means, grown-changes}
+use Rattle.follow.proofs.NewSlot.{NextSlot, slots-same, new-stamp, new-words, new-slot}
+use Rattle.follow.proofs.NewSlot.{new-head, newVersion, chains-mean, NewSlots, later-good}
+use Rattle.tables.specs.Stores.{putSlot, putHead}
+
+module _ (t : Tables) (s v : ℕ) where
+  -- the changes that a tidy stores
+  abbrev tidiedChanges : List Change
+  tidiedChanges = tidyChanges (meaning t .log) s v
+
+  -- where they end
+  abbrev tidyEnd : ℕ
+  tidyEnd = changesIn (t .clock) + length tidiedChanges
+
+  -- the clock then
+  abbrev tidyClock : List ℕ
+  tidyClock = set (set (set (set (t .clock) 2 (stampIn (t .clock) + 1)) 3 (rowsIn (t .clock))) 4 (slotsIn (t .clock) + 1)) 5 tidyEnd
+
+  -- the slots with the new one
+  abbrev tidySlots : List ℕ
+  tidySlots = putSlot (t .slots) (slotsIn (t .clock)) v (stampIn (t .clock) + 1) (headOf (t .heads) v + 1)
+
+  -- the words of the vector queried at s
+  abbrev tidyVector : List ℕ
+  tidyVector = vec (queried (meaning t .log) (chain (meaning t .chains) v) s v) 32
+
+  -- all words with them at the new slot
+  abbrev tidyWords : List ℕ
+  tidyWords = sets (t .words) (32 * slotsIn (t .clock)) tidyVector
+
+  -- all tables then
+  abbrev tidied : Tables
+  tidied =
+      tables tidyClock tidySlots tidyWords (putHead (t .heads) v (slotsIn (t .clock)))
+      (newLog (t .clock) (t .log) 2 (rowsIn (t .clock)) tidyEnd) (putChanges (t .changes) (changesIn (t .clock)) tidiedChanges) (t .sessions)
+
+  tidy-stores : stores t (tidyStores t s v) ≡ tidied
+  tidy-stores =
+      let k = slotsIn (t .clock) in
+      let stamp = stampIn (t .clock) + 1 in
+      let link = headOf (t .heads) v + 1 in
+      log-stores t (tables (t .clock) tidySlots tidyWords (putHead (t .heads) v k) (t .log) (t .changes) (t .sessions))
+      (wordStores (32 * k) tidyVector ++ slotCell k v ∷ slotCell (96 + k) stamp ∷ slotCell (192 + k) link ∷ headCell v k ∷ [])
+      (clockCell 2 stamp ∷ clockCell 3 (rowsIn (t .clock)) ∷ clockCell 4 (k + 1) ∷ clockCell 5 tidyEnd ∷ [])
+      (version-stores t (32 * k) tidyVector k v stamp link) (changesIn (t .clock)) tidiedChanges (stampIn (t .clock)) 2 (rowsIn (t .clock)) tidyEnd
 
 -- a change for each moved row
 tidy-size : (log : Log) (s v : ℕ) → length (tidyChanges log s v) ≡ length (moved log s v)
@@ -52,12 +94,12 @@ tidy-size log s v = length-map (moved log s v) (tidyChange log s v)
 -- what an accepted tidy of a session with start s has: a value, and room for its record and its slot
 record Fits (t : Tables) (s v : ℕ) : Type 0 where
   value-fits : v < valuesIn (t .clock)
-  records-fit : stampIn (t .clock) < maxRecords
-  changes-fit : tidyEnd t s v ≤ maxChanges
-  slots-fit : slotsIn (t .clock) < maxSlots
+  records-fit : stampIn (t .clock) < 512
+  changes-fit : tidyEnd t s v ≤ 2048
+  slots-fit : slotsIn (t .clock) < 96
 
 fits : (t : Tables) (n v : ℕ) → Good t → Open t n → AllFail (tests (meaning t) (tidy n v)) → Fits t (own t n .start .0) v
-unfolding tests
+unfolding tests maxRecords maxChanges maxSlots
 fits t n v g o p =
     record {
       value-fits = value-low t v (p .1 .1 .0);
@@ -80,7 +122,7 @@ module _ (t : Tables) (g : Good t) (s v : ℕ) (f : Fits t s v) where
       record {
         later = tidy-clock (t .clock) (rowsIn (t .clock)) (slotsIn (t .clock) + 1) (tidyEnd t s v) (good-room t g .clock-room);
         records-fit = good-parts t g .records-fit;
-        stamp-low = few-records (stampIn (t .clock)) (f .records-fit);
+        stamp-low = f .records-fit;
         log-room = good-room t g .log-room;
         kinds = inr refl;
         rows-rise = omega arith;
@@ -94,7 +136,7 @@ module _ (t : Tables) (g : Good t) (s v : ℕ) (f : Fits t s v) where
         slots-fit = good-parts t g .slots-fit;
         heads-fit = good-parts t g .heads-fit;
         value-low = f .value-fits;
-        slot-low = few-slots (slotsIn (t .clock)) (f .slots-fit);
+        slot-low = f .slots-fit;
         slots-room = good-room t g .slots-room;
         words-room = good-room t g .words-room;
         head-room = omega (arith, f .value-fits, clock-limits (t .clock) (good-parts t g .clock-fits) .few-values, good-room t g .heads-room);
@@ -130,17 +172,11 @@ module _ (t : Tables) (g : Good t) (s v : ℕ) (f : Fits t s v) where
         next .later .first-kept,
         next .later .rows-now,
         next .later .slots-now,
-        grown-means next (t .changes) (tidiedChanges t s v) refl (few-changes (tidyEnd t s v) (f .changes-fit)) (good-room t g .changes-room),
+        grown-means next (t .changes) (tidiedChanges t s v) refl (f .changes-fit) (good-room t g .changes-room),
         chains-mean slot,
         front,
         add-one (slotsIn (t .clock)),
       )
-
-  -- the new record fits, as the rules have it
-  record-fits : Undamaged (rules.tidying (meaning t) s v) → ChangesFit (valuesIn (t .clock)) (rowsIn (t .clock)) (tidiedChanges t s v)
-  unfolding meaning
-  record-fits u =
-      last-fits (valuesIn (t .clock)) (firstIn (t .clock)) (rowsIn (t .clock)) (meaning t .log) (tidyRecord (meaning t) s v) (u .log-fits)
 
   -- no bit of the new vector is at or above the row count of its stamp
   new-vector : (i : ℕ) → slotsIn (t .clock) ≤ i → i < slotsIn (t .clock) + 1
@@ -151,43 +187,26 @@ module _ (t : Tables) (g : Good t) (s v : ℕ) (f : Fits t s v) where
       rw (e, new-words slot, new-stamp slot, add-one (stampIn (t .clock)), rows-new next)
       (tail-of-bits (tidyVector t s v) (rowsIn (t .clock)) (λ r m. ap (λ (q : ℕ → Bool). q r) vector ∙ query-low r m))
 
-  -- and the tables stay good
-  tidy-room : Room (tidied t s v)
-  tidy-room =
-      let r = good-room t g in
-      let c = t .clock in
-      record {
-        clock-room = simp length-set (r .clock-room);
-        slots-room = rw (length-slot (t .slots) (slotsIn c) v (stampIn c + 1) (headOf (t .heads) v + 1)) (r .slots-room);
-        words-room = rw (length-sets (t .words) (32 * slotsIn c) (tidyVector t s v)) (r .words-room);
-        heads-room = rw (length-head (t .heads) v (slotsIn c)) (r .heads-room);
-        log-room = rw (length-record (t .log) (stampIn c) 2 (rowsIn c) (tidyEnd t s v)) (r .log-room);
-        changes-room = rw (length-changes (t .changes) (changesIn c) (tidiedChanges t s v)) (r .changes-room);
-        sessions-room = r .sessions-room;
-      }
-
-  tidy-parts : Undamaged (rules.tidying (meaning t) s v) → Parts (tidied t s v)
-  tidy-parts u =
+  -- and the tables stay good: the new record fits, as the rules have it
+  tidy-good : Undamaged (rules.tidying (meaning t) s v) → Good (tidied t s v)
+  unfolding meaning
+  tidy-good u =
       let c = t .clock in
       let p = good-parts t g in
-      let same = slots-same slot in
+      later-good t g next
       record {
-        clock-fits =
-            clock-later c (tidyClock t s v) (rowsIn c) (slotsIn c + 1) (tidyEnd t s v) (next .later) (p .clock-fits) (clock-facts c (p .clock-fits) .rows-high)
-            (f .records-fit) (omega arith) (omega (arith, f .slots-fit)) (f .changes-fit);
-        records-fit = records-later next;
-        changes-fit =
-            grown-changes next (t .changes) (tidiedChanges t s v) refl (few-changes (tidyEnd t s v) (f .changes-fit)) (good-room t g .changes-room) (p .changes-fit) (record-fits u);
-        slots-fit =
-            slots-later next same (p .slots-fit) (clock-facts c (p .clock-fits) .slots-low)
-            (λ i h l. let e : i ≡ slotsIn c = omega arith in rw e (new-slot slot));
-        heads-fit = heads-later next same (p .slots-fit) (tidied t s v .heads) (new-head slot);
-        vectors-fit = vectors-later next same (p .slots-fit) (p .vectors-fit) new-vector;
-        sessions-fit = sessions-later next (t .sessions) (p .sessions-fit);
+        same = slots-same slot;
+        used-rise = omega arith;
+        used-few = omega (arith, f .slots-fit);
+        slots-new = λ i h l. let e : i ≡ slotsIn c = omega arith in rw e (new-slot slot);
+        heads-new = new-head slot;
+        vectors-new = new-vector;
+        slots-long = length-slot (t .slots) (slotsIn c) v (stampIn c + 1) (headOf (t .heads) v + 1);
+        words-long = length-sets (t .words) (32 * slotsIn c) (tidyVector t s v);
+        heads-long = length-head (t .heads) v (slotsIn c);
       }
-
-  tidy-good : Undamaged (rules.tidying (meaning t) s v) → Good (tidied t s v)
-  tidy-good u = record { room = room-made (tidied t s v) tidy-room; whole = whole (tidied t s v) (tidy-parts u); wide = g .wide }
+      (simp length-set) (clock-limits c (p .clock-fits) .few-rows) (tidiedChanges t s v) refl (f .changes-fit)
+      (last-fits _ _ _ (meaning t .log) (tidyRecord (meaning t) s v) (u .log-fits))
 
 pub tidy-follows : (t : Tables) → Good t → (n v : ℕ) → Follows t (tidy n v) (tidyOf t n v)
 unfolding tidyOf tests effect
