@@ -5,11 +5,8 @@ use borrow.Author.Needs.{needs}
 use Rattle.calls.proofs.answers.not_put_back.Statement.{statement}
 use Rattle.calls.proofs.answers.not_put_back.Tie as tie
 
-free-session-requires : tie.Need-free-session-requires
-free-session-requires c κs = search needs
-
 returns : tie.Need-returns
 returns c = search relisted-none
 
 pub not-put-back-spec : {M : Type 1} → statement M
-not-put-back-spec = tie.close (tie.spec free-session-requires returns)
+not-put-back-spec = tie.close (tie.spec (λ c κs. search needs) returns)
