@@ -6,6 +6,5 @@ pub mod FlipLaws
 pub mod QueryLaws
 pub mod ReadLaws
 pub mod Meets
-pub mod Shown
 pub mod Ready
 pub mod Kept

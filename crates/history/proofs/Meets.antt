@@ -26,12 +26,11 @@ use Rattle.tables.proofs.Slots.{each-head}
 use Rattle.tables.proofs.Chains.{version-stamp, version-vector}
 use Rattle.tables.proofs.Means.{chain-means, between-means, upTo-means}
 use Rattle.history.specs.Version.{slotSeen, baseSeen}
-use Rattle.history.specs.Last.{lastSet, lastOf}
+use Rattle.history.specs.Last.{lastSet}
 use Rattle.history.specs.Flips.{flippedIn}
 use Rattle.history.specs.Query.{frontFilled, queriedSince, countSince, scratchSince, queriedAt, foundAt, scratchAt}
-use Rattle.history.specs.Read.{readCells, readAfter}
+use Rattle.history.specs.Read.{readCells}
 use Rattle.history.proofs.VersionLaws.{seen-le, seen-version}
-use Rattle.history.proofs.ReadLaws.{after-cells}
 
 module _ (t : Tables) (good : sound t ≡ true) where
   -- ---- the version of a value
@@ -70,10 +69,6 @@ module _ (t : Tables) (good : sound t ≡ true) where
     pub flipSet-meets : (r : ℕ) → lastSet (t .changes) 0 (endAt (t .log) s) r ≡ flipSet (meaning t .log) s r
     unfolding lastSet flipSet
     flipSet-meets r = ap (λ (cs : List Change). orEmpty (lastNaming cs r)) (sym (upTo-means t (parts t good .records-fit) s low))
-
-    pub last-meets : (r : ℕ) → lastOf (t .changes) (endAt (t .log) s) r .set ≡ flipSet (meaning t .log) s r
-    unfolding lastOf
-    last-meets r = flipSet-meets r
 
     -- the rows that a tidy moves
     pub moves-meets : (v r : ℕ) → flippedIn (t .changes) 0 (endAt (t .log) s) v r ≡ moves (meaning t .log) s v r
@@ -122,7 +117,3 @@ module _ (t : Tables) (good : sound t ≡ true) where
     read-meets =
         smallest-ext (λ v. queriedAt (t .slots) (t .words) (t .heads) (t .log) (t .changes) s v row)
         (λ v. queried (meaning t .log) (chain (meaning t .chains) v) s v row) (valuesIn (t .clock)) (λ v l. queried-meets s low v l row)
-
-    pub read-after-meets : readAfter (t .slots) (t .words) (t .heads) (t .log) (valuesIn (t .clock)) s row (lastOf (t .changes) (endAt (t .log) s) row)
-        ≡ readAt (meaning t .values) (meaning t .log) (meaning t .chains) s row
-    read-after-meets = after-cells (t .slots) (t .words) (t .heads) (t .log) (t .changes) (valuesIn (t .clock)) s row ∙ read-meets
