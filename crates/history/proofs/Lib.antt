@@ -2,7 +2,6 @@
 -- Assumes nothing.
 pub mod VersionLaws
 pub mod LastLaws
-pub mod FlipLaws
 pub mod QueryLaws
 pub mod ReadLaws
 pub mod Meets

@@ -6,7 +6,7 @@ use native.Mathlib.Omega.{arith}
 use borrow.Author.Needs.{needs}
 use Rattle.bits.specs.Vec.{vec}
 use Rattle.history.specs.Flips.{flippedIn}
-use Rattle.history.proofs.FlipLaws.{mask-none, mark-row, mask-more, mask-all}
+use Rattle.history.proofs.LastLaws.{mask-none, mark-row, mask-more, mask-all}
 use Rattle.history.proofs.mask.flips.Statement.{statement}
 use Rattle.history.proofs.mask.flips.Tie as tie
 

@@ -1,6 +1,6 @@
 -- `history::mark` meets its contract.
 -- Assumes nothing.
-use Rattle.history.proofs.FlipLaws.{mark-is}
+use Rattle.history.proofs.LastLaws.{mark-is}
 use borrow.Author.Needs.{needs}
 use Rattle.history.proofs.mask.mark.Statement.{statement}
 use Rattle.history.proofs.mask.mark.Tie as tie
