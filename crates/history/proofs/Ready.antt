@@ -41,8 +41,12 @@ module _ (t : Tables) (room : roomy t ≡ true) (good : sound t ≡ true) where
       changes-room = r .changes-room;
       end-low = end-low;
       rows-low = λ j h l.
-          omega (arith, change-at (t .clock) (t .log) (t .changes) (p .records-fit) (p .changes-fit) s j low l .row-low,
-          rows-high-at (t .clock) (t .log) (p .records-fit) s low, k .few-rows);
+          omega (
+            arith,
+            change-at (t .clock) (t .log) (t .changes) (p .records-fit) (p .changes-fit) s j low l .row-low,
+            rows-high-at (t .clock) (t .log) (p .records-fit) s low,
+            k .few-rows,
+          );
     }
 
     pub ready : (v : ℕ) → v < valuesIn (t .clock) → (scratch : List ℕ) → 32 ≤ length scratch

@@ -8,7 +8,8 @@ use lib.Dec.{eqb}
 use lib.ListN.{length, getD, set, take, drop, replicate}
 use Rattle.bits.specs.Bit.{xorb}
 use Rattle.bits.specs.Rows.{rowsBelow}
-use Rattle.rules.specs.Calls.{Column, cell, holds, Call, create, begin, query, read, update, delete, insert, commit, tidy, abort, Answer, refused, ok, value, listed}
+use Rattle.rules.specs.Calls.{Column, cell, holds, Call, create, begin, query, read, update, delete, insert, commit, tidy, abort}
+use Rattle.rules.specs.Calls.{Answer, refused, ok, value, listed}
 
 -- what a session asked for: that a row hold a value or be absent, or that a new row hold a value
 pub data Wish : Type 0 where
