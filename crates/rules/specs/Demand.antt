@@ -1,15 +1,15 @@
 -- What demand 3 claims of a call and its answer, in the plain observer's words, before the observer takes note of them.
 -- Assumes nothing.
 use mathlib.Core.Path.{_≡_}
-use mathlib.Core.Bool.{Bool, true, false}
-use mathlib.Core.Option.{Option, none, some}
+use mathlib.Core.Bool.{Bool, true}
+use mathlib.Core.Option.{Option, some}
 use mathlib.Core.List.{List, [], _∷_, List·Memᴰ}
 use mathlib.Core.Logic.{_↔_}
 use Prim.Native.Nat.{ℕ, suc, _<_}
 use lib.Dec.{ltb}
 use lib.ListN.{length, drop}
 use Rattle.bits.specs.Rows.{Ascending}
-use Rattle.rules.specs.Calls.{Column, cell, Call, create, begin, query, read, update, delete, insert, commit, tidy, abort, Answer}
+use Rattle.rules.specs.Calls.{cell, Call, create, begin, query, read, update, delete, insert, commit, tidy, abort, Answer}
 use Rattle.rules.specs.Calls.{refused, ok, value, listed}
 use Rattle.rules.specs.Plain.{Wish, Event, Visitor, away, sitting, Observer, visitor, columnAt, columnNow, holding, countWished}
 use Rattle.rules.specs.Plain.{wishesOf, isWished, touches, movedBy, accepts, watches}

@@ -12,7 +12,7 @@ use Rattle.bits.specs.Rows.{rowsBelow}
 use Rattle.rules.specs.Limits.{maxRows}
 use Rattle.rules.specs.State.{Change, Record, State, chain}
 use Rattle.rules.specs.Versions.{newest}
-use Rattle.rules.specs.Calls.{Column, Call, create, begin, query, read, update, delete, insert, commit, tidy, abort, Answer}
+use Rattle.rules.specs.Calls.{Column, Call, create, begin, query, read, update, insert, commit, tidy, abort, Answer}
 use Rattle.rules.specs.Calls.{refused, ok, value, listed}
 use Rattle.rules.specs.Step.{created, step, run}
 

@@ -1,6 +1,5 @@
 -- What an accepted call does and answers, one call whole, and a run of calls with its transcript.
 -- Assumes nothing.
-use mathlib.Core.Bool.{Bool, true, false, cond}
 use mathlib.Core.Option.{Option, none, some}
 use mathlib.Core.List.{List, [], _∷_, _++_}
 use Prim.Native.Nat.{ℕ, suc, _+_}
@@ -8,7 +7,7 @@ use lib.Dec.{ltb}
 use lib.ListN.{length, set, replicate}
 use Rattle.bits.specs.Tab.{tab}
 use Rattle.rules.specs.Limits.{maxSessions}
-use Rattle.rules.specs.State.{Record, commits, tidies, Version, Chain, Entry, alter, add, Session, free, opened, State, chain}
+use Rattle.rules.specs.State.{Record, commits, tidies, Version, Chain, Entry, add, Session, free, opened, State, chain}
 use Rattle.rules.specs.State.{session, startOf, rowsOf, listOf}
 use Rattle.rules.specs.Log.{stampOf, grown}
 use Rattle.rules.specs.Versions.{queried, queriedRows, flipCount}
