@@ -20,6 +20,5 @@ pub mod Numbers
 pub mod Shapes
 pub mod Fits
 pub mod Undamaged
-pub mod Whole
 pub mod Lift
 pub mod Examples

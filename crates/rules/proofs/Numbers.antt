@@ -70,10 +70,6 @@ first-low (x ∷ ts) m h n e t k p = go (x .0) refl e (List·Memᴰ·cases-cons 
     go false a q (inl l) ih = absurd (false≢true (sym a ∙ (ap (λ (y : Test). y .0) (sym l) ∙ p)))
     go false a q (inr l) ih = ih q l
 
--- the number that a call is refused by is that of the first test of its table that holds
-pub given-number : (st : State) (c : Call) (n : ℕ) → refusal st c ≡ some n → First (tests st c) n
-given-number st c n e = first-number (tests st c) n e
-
 -- "The smallest number that applies is given.": no test that holds has a smaller one
 pub smallest-number : (st : State) (c : Call) (n : ℕ) → refusal st c ≡ some n → (t : Test) → List·Memᴰ t (tests st c) → t .0 ≡ true → n ≤ t .1
 smallest-number st c n e = first-low (tests st c) 0 (tests-rise st c) n e

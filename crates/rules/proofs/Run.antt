@@ -16,8 +16,8 @@ use Rattle.rules.specs.Tidy.{moved, stale}
 use Rattle.rules.proofs.Invariant.{Within, EntriesFit, Once}
 use Rattle.rules.specs.Calls.{Column, Call, create, begin, query, read, update, delete, insert, commit, tidy, abort}
 use Rattle.rules.specs.Refusals.{isFull, badColumn, tests, refusal, AllFail}
-use Rattle.rules.specs.Step.{created, seated, beginning, relisted, committing, tidying, effect, unless, step, run, transcript}
-use Rattle.rules.specs.Plain.{Wish, hold, grow, Event, committed, tidied, Visitor, away, sitting, Observer, visitor, movedBy, sits, sitsDown, wishing, commitsNow, tidiesNow, started, accepts, watches, observes}
+use Rattle.rules.specs.Step.{created, seated, beginning, relisted, committing, tidying, effect, unless, step}
+use Rattle.rules.specs.Plain.{Wish, hold, grow, Event, committed, tidied, Visitor, away, sitting, Observer, visitor, movedBy, sits, sitsDown, wishing, commitsNow, tidiesNow, started, accepts, watches}
 use Rattle.rules.proofs.Small.{length-snoc}
 use Rattle.rules.proofs.PlainLaws.{columnAfter, column-old, column-now}
 use Rattle.rules.proofs.ListLaws.{length-put, once-put, fits-put, once-insert, fits-insert}
@@ -53,8 +53,6 @@ pub record Inv (st : State) (o : Observer) : Type 0 where
   pub sessions-are : length (st .sessions) ≡ maxSessions
   pub visitors-are : length (o .visitors) ≡ maxSessions
   pub sat : (i : ℕ) → Sits (st .values) (o .column) (o .events) (session st i) (visitor o i)
-
--- ---- accepted: each test failed
 
 -- ---- sessions and visitors
 
@@ -247,8 +245,3 @@ module _ (st : State) (o : Observer) (inv : Inv st o) where
       go : (q : Option ℕ) → refusal st c ≡ q → Inv (unless st q (effect st c) .0) (watches o c (unless st q (effect st c) .1))
       go none e = accepted c (all-fail (tests st c) e)
       go (some n) e = inv
-
-pub run-keeps : (cs : List Call) (st : State) (o : Observer) → Inv st o → Inv (run st cs) (observes o (transcript st cs))
-unfolding run observes transcript
-run-keeps [] st o inv = inv
-run-keeps (c ∷ cs) st o inv = run-keeps cs (step st c .0) (watches o c (step st c .1)) (step-keeps st o inv c)
