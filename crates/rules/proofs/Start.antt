@@ -36,9 +36,9 @@ all-inside C [] r a e q = absurd (Option·none-ne-some a q)
 all-inside C (o ∷ col) zero a e q = leb-false C a (rw q at (or-parts (outside C o) (someOutside C col) e .0))
 all-inside C (o ∷ col) (suc r) a e q = all-inside C col r a (or-parts (outside C o) (someOutside C col) e .1) q
 
-pub good : (C : ℕ) (col : Column) → badColumn C col ≡ false → Good C col
+pub good-column : (C : ℕ) (col : Column) → badColumn C col ≡ false → Good C col
 unfolding badColumn
-good C col e =
+good-column C col e =
     let p = or-parts (eqb C 0 || ltb maxValues C || ltb maxRows (length col)) (someOutside C col) e in
     let q = or-parts (eqb C 0 || ltb maxValues C) (ltb maxRows (length col)) (p .0) in
     let t = or-parts (eqb C 0) (ltb maxValues C) (q .0) in
@@ -64,7 +64,7 @@ start-agrees col v =
 
 pub start-core : (C : ℕ) (col : Column) → badColumn C col ≡ false → Core C col (length col) [] (tab (firstChain col) C) []
 start-core C col e =
-    let g = good C col e in
+    let g = good-column C col e in
     record {
       logged =
           record {
