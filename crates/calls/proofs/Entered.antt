@@ -28,7 +28,8 @@ use Rattle.tables.specs.Damage.{sound, sessionFits}
 use Rattle.tables.proofs.Tests.{both, and-both}
 use Rattle.tables.proofs.Facts.{room-facts, room-made, parts, whole}
 use Rattle.tables.proofs.Sessions.{OpenFacts, freed-zero, session-made, sessions-made, open-at, open-rows-few}
-use Rattle.tables.proofs.Means.{values-means, session-means, session-past, isFree-means, free-means, startOf-means, rowsOf-means, listOf-means}
+use Rattle.tables.proofs.Means.{values-means, session-means, session-past, isFree-means, free-means, startOf-means, rowsOf-means}
+use Rattle.tables.proofs.Means.{listOf-means}
 use Rattle.damage.specs.Room.{roomFor}
 use Rattle.damage.specs.Numbers.{numbersFit}
 use Rattle.damage.specs.Judged.{sessionsJudged}

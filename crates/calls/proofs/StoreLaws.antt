@@ -14,7 +14,8 @@ use Rattle.tables.specs.Sessions.{freed}
 use Rattle.tables.specs.Stores.{putSlot, putHead, putRecord, putChange}
 use Rattle.tables.specs.Meaning.{changeAt, entries, meaning}
 use Rattle.tables.proofs.Stores.{length-change, kept-change}
-use Rattle.calls.specs.Stores.{Store, clockCell, slotCell, wordCell, headCell, changeCell, seat, store, stores, changeStores, recordStores, wordStores, putChanges}
+use Rattle.calls.specs.Stores.{Store, clockCell, slotCell, wordCell, headCell, changeCell, seat, store, stores, changeStores}
+use Rattle.calls.specs.Stores.{recordStores, wordStores, putChanges}
 use Rattle.calls.specs.Calls.{own, commitRows, commitStores}
 
 -- one group after another

@@ -29,8 +29,7 @@ use Rattle.calls.specs.Calls.{own, reseated, beginning, beginOf, abortOf}
 use Rattle.calls.proofs.Entered.{seat-means}
 use Rattle.follow.specs.Good.{Good, Wide}
 use Rattle.follow.specs.Follows.{Follows}
-use Rattle.follow.proofs.Good.{good-parts, good-seated, good-freed, Meets, meets-by, follows, place-low, seated-means}
-use Rattle.follow.proofs.Good.{open-seat}
+use Rattle.follow.proofs.Good.{good-parts, good-seated, good-freed, Meets, meets-by, follows, place-low, seated-means, open-seat}
 
 -- the session that begin opens
 abbrev new : Tables → Session

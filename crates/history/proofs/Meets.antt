@@ -16,7 +16,7 @@ use Rattle.rules.specs.State.{Change, Version, Chain, chain}
 use Rattle.rules.specs.Log.{between, changesOf, lastNaming, orEmpty, flipSet}
 use Rattle.rules.specs.Versions.{versionAt, flipped, queried, flipCount, readAt}
 use Rattle.rules.specs.Tidy.{moves, moved}
-use Rattle.rules.proofs.VersionLaws.{version-before}
+use Rattle.rules.proofs.LogLaws.{version-before}
 use Rattle.tables.specs.Cells.{Tables, valuesIn, stampIn, slotsIn, slotStamp, slotWords, headOf, endAt}
 use Rattle.tables.specs.Meaning as cells
 use Rattle.tables.specs.Meaning.{meaning}

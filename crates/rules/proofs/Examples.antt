@@ -14,7 +14,8 @@ use Rattle.rules.specs.Commit.{toggled, commitChanges}
 use Rattle.rules.specs.Tidy.{moved, tidyChanges}
 use Rattle.rules.specs.Refusals.{badColumn, tests}
 use Rattle.rules.specs.Step.{created, effect, step, run}
-use Rattle.rules.specs.Examples.{firstColumn, start, printed, printed₆, printed₈, printed₉, emptying, returning, replacing, overtaking, setOf, rowWith, Marked, Caught}
+use Rattle.rules.specs.Examples.{firstColumn, start, printed, printed₆, printed₈, printed₉, emptying, returning, replacing}
+use Rattle.rules.specs.Examples.{overtaking, setOf, rowWith, Marked, Caught}
 
 -- the sets of the examples, as the numbers that the rules compute
 sets : (setOf [] ≡ 0) × (setOf (1 ∷ []) ≡ 2) × (setOf (2 ∷ []) ≡ 4) × (setOf (1 ∷ 3 ∷ []) ≡ 10) × (setOf (2 ∷ 3 ∷ []) ≡ 12)

@@ -8,7 +8,8 @@ use mathlib.Core.Logic.{_⊎_, inl, inr, ⊎-elim, _↔_}
 use Prim.Native.Nat.{ℕ, _≤_, _<_}
 use native.Mathlib.Omega.{arith}
 use Rattle.rules.specs.State.{State, Session, free, opened, session}
-use Rattle.rules.specs.Calls.{Call, create, begin, query, read, update, delete, insert, commit, tidy, abort, Answer, refused, ok, value, listed}
+use Rattle.rules.specs.Calls.{Call, create, begin, query, read, update, delete, insert, commit, tidy, abort, Answer, refused, ok}
+use Rattle.rules.specs.Calls.{value, listed}
 use Rattle.rules.specs.Refusals.{Test, firstOf, First, tests, refusal, AllFail}
 use Rattle.rules.specs.Step.{beginning, effect, unless, step}
 use Rattle.rules.proofs.Tests.{all-fail, fail-all}

@@ -13,7 +13,8 @@ use lib.ListN.{length, take, drop, set, length-append, length-set, take-append-d
 use lib.Seq.{take-append-le, take-length, take-take, getD-set-other}
 use Rattle.bits.specs.Cases.{bool-cases}
 use Rattle.rules.specs.Calls.{Column, cell}
-use Rattle.rules.specs.Plain.{Wish, hold, grow, rewritten, newRows, met, isWished, Event, committed, tidied, replay, isTidyOf, lastFrom, lastTidy, touches}
+use Rattle.rules.specs.Plain.{Wish, hold, grow, rewritten, newRows, met, isWished, Event, committed, tidied, replay, isTidyOf}
+use Rattle.rules.specs.Plain.{lastFrom, lastTidy, touches}
 use Rattle.rules.proofs.Small.{or-parts, take-snoc}
 
 -- the column after the commits among the first k events

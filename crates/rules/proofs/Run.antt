@@ -23,13 +23,9 @@ use Rattle.rules.proofs.Small.{length-snoc, same-everywhere, pair-set}
 use Rattle.rules.proofs.PlainLaws.{columnAfter, column-old, column-now}
 use Rattle.rules.proofs.ListLaws.{Kept, put-kept, insert-kept}
 use Rattle.rules.proofs.Wishes.{Same, same-none, same-put, same-insert}
-use Rattle.rules.proofs.Logged.{columns-fit}
-use Rattle.rules.proofs.Agrees.{moved-rows}
-use Rattle.rules.proofs.Core.{Core}
-use Rattle.rules.proofs.Committing.{commit-keeps}
-use Rattle.rules.proofs.Tidying.{tidy-keeps}
+use Rattle.rules.proofs.Agrees.{columns-fit, moved-rows, Core, start-core}
+use Rattle.rules.proofs.Committing.{commit-keeps, tidy-keeps}
 use Rattle.rules.proofs.Tests.{all-fail}
-use Rattle.rules.proofs.Start.{start-core}
 
 -- an open session, and what the observer has of it
 pub record Seated (C : ℕ) (col : Column) (h : List Event) (s n : ℕ) (es : List Entry) (k : ℕ) (ws : List Wish) : Type 0 where

@@ -15,8 +15,7 @@ use Rattle.bits.specs.Cases.{eq-cases, lt-cases}
 use Rattle.bits.specs.Tab.{length-tab, getD-tab}
 use Rattle.bits.specs.Rows.{rowsBelow, rows-mem}
 use Rattle.rules.specs.Limits.{maxValues, maxRows, maxSlots, maxRecords, maxChanges, maxSessions}
-use Rattle.rules.specs.State.{Record, Chain, Entry, Session, free, opened, State, chain, session, isFree, startOf, rowsOf}
-use Rattle.rules.specs.State.{listOf}
+use Rattle.rules.specs.State.{Record, Chain, Entry, Session, free, opened, State, chain, session, isFree, startOf, rowsOf, listOf}
 use Rattle.rules.specs.Log.{stampOf, grown, allChanges, flipSet}
 use Rattle.rules.specs.Versions.{readAt}
 use Rattle.rules.specs.Lists.{inserts}
@@ -30,7 +29,7 @@ use Rattle.rules.proofs.Invariant.{ChangesFit, Falls, VectorsFit, Withi
 use Rattle.rules.proofs.Small.{clash, same-everywhere, pair-set}
 use Rattle.rules.proofs.LogLaws.{stamp-empty, stamp-grown, allChanges-grown, rowsAt-new, fits-grown}
 use Rattle.rules.proofs.ListLaws.{Kept, put-kept, insert-kept}
-use Rattle.rules.proofs.Start.{good-column}
+use Rattle.rules.proofs.Agrees.{good-column}
 use Rattle.rules.proofs.Tests.{all-fail}
 use Rattle.rules.proofs.Fits.{no-changes, count-low, count-now, changes-append, flipSet-low, flipSet-beyond, queried-beyond}
 use Rattle.rules.proofs.Fits.{smallest-low, toggled-low, rows-fit, inserts-fit, length-made, map-fit, falls-more, falls-cons}
