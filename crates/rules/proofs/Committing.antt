@@ -28,9 +28,8 @@ use Rattle.rules.proofs.Invariant.{Within, EntriesFit, Once}
 use Rattle.rules.proofs.Small.{clash, xorb-false, turn-none, or-parts, option-cases}
 use Rattle.rules.proofs.Changes.{lastNaming-append, names-append, not-named, none-named, last-fails}
 use Rattle.rules.proofs.LogLaws.{flipSet-new, flipSet-kept, flipSet-since, version-newest}
-use Rattle.rules.proofs.PlainLaws.{columnAfter, length-rewritten, length-met, met-low, column-grows}
+use Rattle.rules.proofs.PlainLaws.{columnAfter, length-rewritten, length-met, met-low, column-grows, Same, same-lists, same-cell}
 use Rattle.rules.proofs.ListLaws.{isGiven, lists-target}
-use Rattle.rules.proofs.Wishes.{Same, same-lists, same-cell}
 use Rattle.rules.proofs.Agrees.{Logged, grow-logged, still, valued-now, columns-fit, Agrees, agrees-kept, right-now, queried-is}
 use Rattle.rules.proofs.Agrees.{moves-none, agrees-renewed, Core, read-is}
 

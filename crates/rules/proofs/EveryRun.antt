@@ -29,8 +29,7 @@ use Rattle.rules.specs.Plain.{columnAt, holding, movedBy, columnNow, sta
 use Rattle.rules.specs.Demand.{Numbers, RightQuery, Reads, beginsAt, Overtaken, tidiesAt, Right, AllRight}
 use Rattle.rules.specs.Moved.{MovesRows}
 use Rattle.rules.proofs.Small.{clash}
-use Rattle.rules.proofs.PlainLaws.{touched, touched-means}
-use Rattle.rules.proofs.Wishes.{Same, same-lists}
+use Rattle.rules.proofs.PlainLaws.{touched, touched-means, Same, same-lists}
 use Rattle.rules.proofs.Agrees.{columns-fit, Agrees, queried-rows, flip-count, moves-none, read-is}
 use Rattle.rules.proofs.Committing.{conflicts-means, fits-row}
 use Rattle.rules.proofs.Run.{Seated, Sits, Inv, moved-is, start-inv, accepted, step-keeps}

@@ -2,9 +2,8 @@ pub mod Small
 pub mod Invariant
 pub mod Changes
 pub mod LogLaws
-pub mod PlainLaws
 pub mod ListLaws
-pub mod Wishes
+pub mod PlainLaws
 pub mod Committing
 pub mod Agrees
 pub mod Run

@@ -20,9 +20,8 @@ use Rattle.rules.specs.Step.{created, seated, beginning, relisted, commi
 use Rattle.rules.specs.Plain.{Wish, hold, grow, Event, committed, tidied, Visitor, away, sitting, Observer, visitor, movedBy, sits}
 use Rattle.rules.specs.Plain.{sitsDown, wishing, commitsNow, tidiesNow, started, accepts, watches}
 use Rattle.rules.proofs.Small.{length-snoc, same-everywhere, pair-set}
-use Rattle.rules.proofs.PlainLaws.{columnAfter, column-old, column-now}
+use Rattle.rules.proofs.PlainLaws.{columnAfter, column-old, column-now, Same, same-none, same-put, same-insert}
 use Rattle.rules.proofs.ListLaws.{Kept, put-kept, insert-kept}
-use Rattle.rules.proofs.Wishes.{Same, same-none, same-put, same-insert}
 use Rattle.rules.proofs.Agrees.{columns-fit, moved-rows, Core, start-core}
 use Rattle.rules.proofs.Committing.{commit-keeps, tidy-keeps}
 use Rattle.rules.proofs.Tests.{all-fail}
