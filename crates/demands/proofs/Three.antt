@@ -13,7 +13,7 @@ use Rattle.rules.specs.Step.{effect, unless, step}
 use Rattle.rules.specs.Plain.{Observer, started, watches, observes}
 use Rattle.rules.specs.Demand.{Right}
 use Rattle.rules.proofs.EveryRun.{right, tidy-moves}
-use Rattle.rules.proofs.Numbers.{refused-exactly}
+use Rattle.rules.proofs.Numbers.{tests-rise, first-above, refused-exactly}
 use Rattle.rules.proofs.Run.{Inv, start-inv, step-keeps}
 use Rattle.tables.specs.Cells.{Tables}
 use Rattle.tables.specs.Room.{roomy}
@@ -23,7 +23,6 @@ use Rattle.follow.specs.Good.{Good}
 use Rattle.follow.proofs.Create.{create-creates}
 use Rattle.demands.specs.Asks.{Ask, query, read, commit, tidy, callOf, comesTo, told, tablesAfter, transcriptOf}
 use Rattle.demands.specs.Demands.{RightAt}
-use Rattle.demands.proofs.Least.{first-from, from-three}
 use Rattle.demands.proofs.Steps.{steps, tells}
 
 -- ---- one moment
@@ -37,7 +36,7 @@ module _ (t : Tables) (o : Observer) (g : Good t) (w : Inv (meaning t) o) where
   number-high : (a : Ask) (n : ℕ) → told t a ≡ refused n → 3 ≤ n
   number-high a n e =
       let c = callOf a in
-      first-from 3 (tests (meaning t) c) (from-three (meaning t) c) n (refused-exactly (meaning t) c n .0 (sym (tells t g a) ∙ e))
+      first-above (tests (meaning t) c) 2 (tests-rise (meaning t) c) n (refused-exactly (meaning t) c n .0 (sym (tells t g a) ∙ e))
 
   -- a tidy that answers numbers is accepted
   tidy-accepted : (n v : ℕ) (ns : List ℕ) → told t (tidy n v) ≡ ok ns → refusal (meaning t) (rules.tidy n v) ≡ none
