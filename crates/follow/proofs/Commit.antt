@@ -30,7 +30,7 @@ use Rattle.calls.proofs.StoreLaws.{commit-stores}
 use Rattle.follow.specs.Good.{Good}
 use Rattle.follow.proofs.Good.{good-room, good-parts, follows, Open, open-seat, good-freed}
 use Rattle.follow.specs.Follows.{Follows}
-use Rattle.follow.proofs.NewRecord.{commit-clock, newLog, NextRecord, last-fits, grown-means, grown-changes}
+use Rattle.follow.proofs.NewRecord.{commit-clock, newLog, NextRecord, last-fits, grown-means}
 use Rattle.follow.proofs.NewSlot.{no-slot, later-good}
 
 module _ (t : Tables) (n : ℕ) where

@@ -1,14 +1,14 @@
 -- Create follows the rules, from any tables with room, damaged or not: what the cells of tables just made of a column are, that
 -- they mean the rules' first state, and that they are good. Assumes nothing.
 use mathlib.Core.Path.{_≡_, refl, ap, ap₂, _∙_, fun-ext, sym}
-use mathlib.Core.Bool.{Bool, true, false, cond, _&&_, _||_, true≢false}
+use mathlib.Core.Bool.{Bool, true, false, cond, _&&_, true≢false}
 use mathlib.Core.Option.{Option, none, some}
 use mathlib.Core.List.{[], _∷_, List, map}
 use mathlib.Core.Logic.{inl, _⊎_, ⊎-elim}
 use Prim.Native.Nat.{ℕ, _+_, _≤_, _<_, _*_, _/_, _%_}
 use native.Mathlib.Numerals.{add-one}
 use native.Mathlib.Omega.{arith}
-use borrow.Author.Tests.{ne-eqb, eqb-false, lt-ltb, le-ltb, ltb-false}
+use borrow.Author.Tests.{ne-eqb, lt-ltb, le-ltb}
 use lib.ListN.{length, replicate, List·getD-eq-default, getD, take, drop, length-map, length-replicate, length-drop, List·getD-append}
 use lib.ListN.{List·getD-map}
 use lib.Dec.{eqb, ltb}
@@ -25,8 +25,8 @@ use Rattle.rules.specs.Limits.{maxValues, maxRows, maxSlots, maxSessions}
 use Rattle.rules.specs.State.{Version, free}
 use Rattle.rules.specs.Calls.{Column, cell, holds, create}
 use Rattle.rules.specs.Step.{firstChain, created, effect, step}
-use Rattle.rules.specs.Refusals.{someOutside, badColumn, tests}
-use Rattle.rules.proofs.Small.{or-parts}
+use Rattle.rules.specs.Refusals.{badColumn, tests}
+use Rattle.rules.proofs.Agrees.{good-column}
 use Rattle.tables.specs.Cells.{Tables, valuesIn, firstIn, stampIn, rowsIn, slotsIn, changesIn, slotValue, slotStamp, slotLink, slotWords}
 use Rattle.tables.specs.Cells.{headOf, rowsAt}
 use Rattle.tables.specs.Sessions.{freed, sessionAt}
@@ -219,16 +219,11 @@ module _ (t : Tables) (room : Room t) (c : ℕ) (col : List ℕ) where
 
   -- 3 fails: the tables are made of the column
   made : badColumn c (columnOf col) ≡ false → (meaning after ≡ created c (columnOf col)) × Good after
-  unfolding badColumn maxValues maxRows
+  unfolding maxValues maxRows
   made e =
-      let p = or-parts (eqb c 0 || ltb 32 c || ltb 2048 (length (columnOf col))) (someOutside c (columnOf col)) e in
-      let q = or-parts (eqb c 0 || ltb 32 c) (ltb 2048 (length (columnOf col))) (p .0) in
-      let s = or-parts (eqb c 0) (ltb 32 c) (q .0) in
-      let low : c ≡ 0 → ⊥ = eqb-false c 0 (s .0) in
-      let high : c ≤ 32 = ltb-false 32 c (s .1) in
-      let few : length (columnOf col) ≤ 2048 = ltb-false 2048 (length (columnOf col)) (q .1) in
-      let f = created-fresh high (omega (arith, length-map col valueOf)) in
-      (fresh-means after c (columnOf col) f, fresh-good after c (columnOf col) f created-room (omega arith) high few)
+      let g = good-column c (columnOf col) e in
+      let f = created-fresh (g .values-fit) (omega (arith, g .column-fits, length-map col valueOf)) in
+      (fresh-means after c (columnOf col) f, fresh-good after c (columnOf col) f created-room (g .some-value) (g .values-fit) (g .column-fits))
 
 -- ---- the call
 

@@ -39,7 +39,7 @@ use Rattle.calls.proofs.StoreLaws.{version-stores, log-stores}
 use Rattle.follow.specs.Good.{Good}
 use Rattle.follow.proofs.Good.{good-room, good-parts, follows, value-low, Open, open-seat}
 use Rattle.follow.specs.Follows.{Follows}
-use Rattle.follow.proofs.NewRecord.{tidy-clock, newLog, NextRecord, rows-new, last-fits, grown-means, grown-changes}
+use Rattle.follow.proofs.NewRecord.{tidy-clock, newLog, NextRecord, rows-new, last-fits, grown-means}
 use Rattle.follow.proofs.NewSlot.{NextSlot, slots-same, new-stamp, new-words, new-slot, new-head, newVersion, chains-mean}
 use Rattle.follow.proofs.NewSlot.{NewSlots, later-good}
 use Rattle.tables.specs.Stores.{putSlot, putHead}
