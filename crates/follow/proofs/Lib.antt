@@ -1,7 +1,6 @@
 -- The step theorems: what they share, and each call.
 -- Assumes nothing.
 pub mod Good
-pub mod Listed
 pub mod Create
 pub mod Query
 pub mod Update
