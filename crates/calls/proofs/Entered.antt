@@ -44,8 +44,7 @@ use Rattle.calls.specs.Outcome.{refusalAt}
 use Rattle.lent.specs.Seats as lent
 use Rattle.calls.specs.Seats.{seatOf}
 use Rattle.calls.specs.Enter.{whyOf, enteredBy, placedBy, shut, inReach, strange, unknown, openedBy, valuedBy}
-use Rattle.calls.proofs.TestLaws.{first-begins, first-goes-on, first-skips}
-use Rattle.calls.proofs.EnterLaws.{Passes, passes}
+use Rattle.calls.proofs.EnterLaws.{first-begins, first-goes-on, first-skips, Passes, passes}
 
 -- ---- the number tables alone
 

@@ -8,4 +8,3 @@ pub mod Begin
 pub mod NewRecord
 pub mod NewSlot
 pub mod Commit
-pub mod Tidy
