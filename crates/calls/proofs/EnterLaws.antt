@@ -145,7 +145,9 @@ module _ (clock slots words heads log changes : List ℕ) (x : Seat) (n : ℕ) (
 
   -- the clock that a passed test leaves
   clock-there : (ts : List Test) → tests ts ≡ none → 6 ≤ length clock
-  clock-there ts e = room-lengths clock slots words heads log changes (x .places) (passes clock slots words heads log changes (x .places) (x .fit) ts e .room-found) .clock-room
+  clock-there ts e =
+      room-lengths clock slots words heads log changes (x .places) (passes clock slots words heads log changes (x .places) (x .fit) ts
+      e .room-found) .clock-room
 
   module _ (e : whyOf test ≡ placedBy clock slots words heads log changes (x .places) (x .fit) n) where
     pub opened-stays : (why : Refusal) → test ≡ No why → whyOf test ≡ openedBy clock slots words heads log changes x n

@@ -74,7 +74,8 @@ module _ (t : Tables) (g : Good t) (n : ℕ) where
       meets-by t (begin n) (beginning t n x) (outcome (reseated t n (new t)) [] (numbers (stampIn (t .clock) ∷ rowsIn (t .clock) ∷ [])))
       (seated (meaning t) n (opened (stampOf (meaning t .log)) (meaning t .rows) [])) (ok (stampOf (meaning t .log) ∷ meaning t .rows ∷ []))
       (rw (ne-eqb (x .live) 1 v)) (ap (rules.beginning (meaning t) n) (seat-means t n ∙ free-means x v))
-      (seated-means t n l g (new t) ∙ ap (seated (meaning t) n) (new-means t)) (rw (stamp-means t, rows-means t)) (good-seated t n (new t) g (new-wide t) (inr (new-fits t g)))
+      (seated-means t n l g (new t) ∙ ap (seated (meaning t) n) (new-means t)) (rw (stamp-means t, rows-means t))
+      (good-seated t n (new t) g (new-wide t) (inr (new-fits t g)))
 
   pub begin-follows : Follows t (begin n) (beginOf t n)
   unfolding beginOf tests

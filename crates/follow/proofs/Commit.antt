@@ -210,7 +210,8 @@ tidy-fits t n v g o p =
 -- the vector's words have the rows of the query, since no query has a row at or above the row count
 vector-means : (f : ℕ → Bool) (n : ℕ) → n ≤ 2048 → ((r : ℕ) → n ≤ r → f r ≡ false) → bitAt (vec f 32) ≡ f
 vector-means f n h z =
-    fun-ext (λ r. ⊎-elim (λ (l : r < 2048). bitAt-vec f 32 r l) (λ (l : 2048 ≤ r). bitAt-above (vec f 32) r (omega (arith, length-vec f 32)) ∙ sym (z r (omega arith))) (lt-cases r 2048))
+    fun-ext (λ r. ⊎-elim (λ (l : r < 2048). bitAt-vec f 32 r l)
+    (λ (l : 2048 ≤ r). bitAt-above (vec f 32) r (omega (arith, length-vec f 32)) ∙ sym (z r (omega arith))) (lt-cases r 2048))
 
 module _ (t : Tables) (g : Good t) (s v : ℕ) (f : TidyFits t s v) where
   -- its record and its clock
@@ -250,7 +251,8 @@ module _ (t : Tables) (g : Good t) (s v : ℕ) (f : TidyFits t s v) where
   -- the rows of its words are those of the query
   vector : bitAt (tidyVector t s v) ≡ queried (meaning t .log) (chain (meaning t .chains) v) s v
   vector =
-      vector-means (queried (meaning t .log) (chain (meaning t .chains) v) s v) (rowsIn (t .clock)) (clock-limits (t .clock) (good-parts t g .clock-fits) .few-rows) query-low
+      vector-means (queried (meaning t .log) (chain (meaning t .chains) v) s v) (rowsIn (t .clock))
+      (clock-limits (t .clock) (good-parts t g .clock-fits) .few-rows) query-low
 
   -- the chain of v: the new version in front
   version : newVersion (t .clock) (tidyVector t s v) ≡ tidyVersion (meaning t) s v

@@ -33,7 +33,8 @@ use Rattle.calls.specs.Stores.{putChanges}
 use Rattle.calls.proofs.StoreLaws.{changes-before}
 
 -- the changes put
-pub changes-put : (l : List ℕ) (p : ℕ) (cs : List Change) → p + length cs ≤ 2048 → 4096 ≤ length l → stretch (changeAt (putChanges l p cs)) p (p + length cs) ≡ cs
+pub changes-put : (l : List ℕ) (p : ℕ) (cs : List Change) → p + length cs ≤ 2048 → 4096 ≤ length l
+    → stretch (changeAt (putChanges l p cs)) p (p + length cs) ≡ cs
 unfolding putChanges
 changes-put l p [] h room = stretch-none (changeAt l) p (p + 0) (omega arith)
 changes-put l p (c ∷ cs) h room =
@@ -163,7 +164,8 @@ module _ {c c′ log : List ℕ} {kind rows slots end : ℕ} (k : NextRecord c c
       → ChangeFacts changes′ (valuesIn c′) (rowsAt (firstIn c′) (newLog c log kind rows end) (suc (stampIn c))) p
   change-new changes′ f p a b =
       rw (k .later .values-kept, rows-new)
-      (changes-fit-at changes′ (valuesIn c) rows (changesIn c) end f p (omega (arith, ends-old (stampIn c) (omega arith), last-end c log (k .records-fit))) (omega (arith, ends-new)))
+      (changes-fit-at changes′ (valuesIn c) rows (changesIn c) end f p
+      (omega (arith, ends-old (stampIn c) (omega arith), last-end c log (k .records-fit))) (omega (arith, ends-new)))
 
   pub changes-later : (changes changes′ : List ℕ) → changesFit c log changes ≡ true → ((p : ℕ) → p < changesIn c → changeAt changes′ p ≡ changeAt changes p)
       → ChangesFit (valuesIn c) rows (stretch (changeAt changes′) (changesIn c) end) → changesFit c′ (newLog c log kind rows end) changes′ ≡ true

@@ -78,7 +78,8 @@ module _ {c c′ log slots words slots′ words′ : List ℕ} {kind rows used e
       slots-made c′ slots′
       (λ i h l. let h′ : i < valuesIn c = omega (arith, k .later .values-kept) in
       first-same same i (omega arith) (each-first c slots e i h′ (omega arith)))
-      (λ i h l. rw (k .later .values-kept, k .later .stamp-next) (later i (omega (arith, k .later .values-kept)) (omega (arith, k .later .slots-now)) (lt-cases i (slotsIn c))))
+      (λ i h l. rw (k .later .values-kept, k .later .stamp-next)
+      (later i (omega (arith, k .later .values-kept)) (omega (arith, k .later .slots-now)) (lt-cases i (slotsIn c))))
     where
       later : (i : ℕ) → valuesIn c ≤ i → i < used → (i < slotsIn c) ⊎ (slotsIn c ≤ i) → LaterSlot (valuesIn c) (stampIn c + 1) slots′ i
       later i h l (inl o) =
@@ -219,7 +220,8 @@ module _ {c slots words heads : List ℕ} {v : ℕ} {ws : List ℕ} (k : NextSlo
   -- from an old slot on, whatever the bounds
   old-chain : (n m i : ℕ) → i < slotsIn c → i < n → i < m → chainFrom (newSlots c slots heads v) (newWords c words ws) n i ≡ chainFrom slots words m i
   old-chain =
-      chain-same (slotsIn c) slots words (newSlots c slots heads v) (newWords c words ws) (λ i l. link-falls c slots (k .slots-fit) i l) (slots-same k .link-same)
+      chain-same (slotsIn c) slots words (newSlots c slots heads v) (newWords c words ws) (λ i l. link-falls c slots (k .slots-fit) i l)
+      (slots-same k .link-same)
       (version-same (slots-same k))
 
   -- the version of the new slot
@@ -252,7 +254,8 @@ module _ {c slots words heads : List ℕ} {v : ℕ} {ws : List ℕ} (k : NextSlo
   pub chains-mean : tab (chainAt (newSlots c slots heads v) (newWords c words ws) (newHeads c heads v)) (valuesIn c)
       ≡ set (tab (chainAt slots words heads) (valuesIn c)) v (newVersion c ws ∷ chainAt slots words heads v)
   chains-mean =
-      tab-set [] (chainAt slots words heads) (chainAt (newSlots c slots heads v) (newWords c words ws) (newHeads c heads v)) (valuesIn c) v (k .value-low) chain-other
+      tab-set [] (chainAt slots words heads) (chainAt (newSlots c slots heads v) (newWords c words ws) (newHeads c heads v)) (valuesIn c)
+      v (k .value-low) chain-other
       ∙ ap (set (tab (chainAt slots words heads) (valuesIn c)) v) chain-own
 
 -- ---- all tables, one record later

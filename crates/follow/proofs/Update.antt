@@ -88,22 +88,27 @@ entries-past x at to w l =
     let p = x .count in
     let f = entryAt (listedAt x p at to) in
     ap (tab f) (count-past x p at to (omega arith)) ∙ tab-more f p
-    ∙ ap₂ (λ (es : List Entry) (e : Entry). es ++ (e ∷ [])) (tab-ext f (entryAt x) p (λ k m. entry-other x p at to k (λ e. omega arith))) (entry-same x p at to w l)
+    ∙ ap₂ (λ (es : List Entry) (e : Entry). es ++ (e ∷ [])) (tab-ext f (entryAt x) p (λ k m. entry-other x p at to k (λ e. omega arith)))
+    (entry-same x p at to w l)
 
 -- ---- the session stays as it must be
 
 -- a place in a list, or after it, where an entry may stand: no other entry has its row
-module _ (values first stamp : ℕ) (log : List ℕ) (x : Session) (f : OpenFacts values first stamp log x) (w : Wide x) (p at to : ℕ) (l : p < 32) (h : p ≤ x .count)
+module _ (values first stamp : ℕ) (log : List ℕ) (x : Session) (f : OpenFacts values first stamp log x) (w : Wide x) (p at to : ℕ)
+    (l : p < 32) (h : p ≤ x .count)
     (fits : EntryCases values (x .rows .0) at to) (alone : (at ≡ 65535 → ⊥) → (j : ℕ) → j < x .count → j ≢ p → getD (x .at) j 0 ≡ at → ⊥) where
   abbrev y : Session
   y = listedAt x p at to
 
   old : (i : ℕ) → i < y .count → i ≢ p → i < x .count
   old i m d =
-      ⊎-elim (λ (k : p < x .count). omega (arith, count-within x p at to k)) (λ (k : x .count ≤ p). omega (arith, count-past x p at to k, d)) (lt-cases p (x .count))
+      ⊎-elim (λ (k : p < x .count). omega (arith, count-within x p at to k))
+      (λ (k : x .count ≤ p). omega (arith, count-past x p at to k, d)) (lt-cases p (x .count))
 
   few : y .count ≤ 32
-  few = ⊎-elim (λ (k : p < x .count). omega (arith, count-within x p at to k, f .count-low)) (λ (k : x .count ≤ p). omega (arith, count-past x p at to k)) (lt-cases p (x .count))
+  few =
+      ⊎-elim (λ (k : p < x .count). omega (arith, count-within x p at to k, f .count-low))
+      (λ (k : x .count ≤ p). omega (arith, count-past x p at to k)) (lt-cases p (x .count))
 
   each-entry : (i : ℕ) → i < y .count → EntryCases values (x .rows .0) (getD (y .at) i 0) (getD (y .to) i 0)
   each-entry i m =
@@ -189,7 +194,8 @@ module _ (x : Session) (r : ℕ) (d : r ≡ 65535 → ⊥) where
           ∙ sym (put-there (entries x) p r (targetOf to) (targetOf (getD (x .to) p 0)) (add 0) (omega (arith, length-entries x))
           (getD-tab (entryAt x) (x .count) p (add 0) h ∙ entry-alter (getD (x .at) p 0) (getD (x .to) p 0) (λ e. d (sym (s .there h) ∙ e))
           ∙ ap (λ (q : ℕ). alter q (targetOf (getD (x .to) p 0))) (s .there h))
-          (ap (λ (es : List Entry). lists es r) (take-tab (entryAt x) p (x .count) (s .within) ∙ sym (tab-stretch (entryAt x) p)) ∙ lists-none x r p (s .before)))
+          (ap (λ (es : List Entry). lists es r) (take-tab (entryAt x) p (x .count) (s .within) ∙ sym (tab-stretch (entryAt x) p))
+          ∙ lists-none x r p (s .before)))
       go p s l (inr h) =
           let e : p ≡ x .count = omega (arith, s .within) in
           ap (λ (q : ℕ). entries (listedAt x q r to)) e ∙ entries-past x r to w (omega arith)
@@ -280,7 +286,8 @@ module _ (t : Tables) (g : Good t) (n v : ℕ) where
       let low : x .count < 32 = omega (arith, length-entries x) in
       relisted-meets t g n o (x .count) 65535 v (insert n v) (listOf (session (meaning t) n) ++ (add v ∷ [])) refl
       (rw (o .means) (entries-past x 65535 v (o .wide) low ∙ ap (λ (e : Entry). entries x ++ (e ∷ [])) (entry-add 65535 v refl)))
-      (listed-fits (valuesIn (t .clock)) (firstIn (t .clock)) (stampIn (t .clock)) (t .log) x (o .facts) (o .wide) (x .count) 65535 v low (omega arith) (inr (refl, l))
+      (listed-fits (valuesIn (t .clock)) (firstIn (t .clock)) (stampIn (t .clock)) (t .log) x (o .facts) (o .wide) (x .count) 65535 v low
+      (omega arith) (inr (refl, l))
       (λ d. absurd (d refl)))
 
   pub insert-follows : Follows t (insert n v) (insertOf t n v)

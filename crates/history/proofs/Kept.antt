@@ -33,4 +33,5 @@ module _ (changes other : List ℕ) (n : ℕ) (same : (p : ℕ) → p < n → ch
   unfolding readCells queriedAt queriedSince
   read-kept slots words heads log values s row h =
       smallest-ext (λ v. queriedAt slots words heads log changes s v row) (λ v. queriedAt slots words heads log other s v row) values
-      (λ v l. ap (xorb (bitAt (slotWords words (baseSeen slots heads log s v .slot)) row)) (flipped-kept (baseSeen slots heads log s v .from) (endAt log s) v row h))
+      (λ v l. ap (xorb (bitAt (slotWords words (baseSeen slots heads log s v .slot)) row))
+      (flipped-kept (baseSeen slots heads log s v .from) (endAt log s) v row h))

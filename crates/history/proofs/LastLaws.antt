@@ -47,7 +47,8 @@ module _ (changes : List ℕ) (row : ℕ) where
 
   pub names-more : (a b : ℕ) → a ≤ b → in-cut a (b + 1) ≡ in-cut a b || eqb (changeRow changes b) row
   names-more a b h =
-      rw (stretch-more (changeAt changes) a b h, names-append (cut a b) (changeAt changes b ∷ []) row, or-false (eqb (changeRow changes b) row))
+      let x = changeAt changes b in
+      rw (stretch-more (changeAt changes) a b h, names-append (cut a b) (x ∷ []) row, or-false (eqb (changeRow changes b) row))
 
   names-join : (a b c : ℕ) → a ≤ b → b ≤ c → in-cut a c ≡ in-cut a b || in-cut b c
   names-join a b c h l = rw (← (stretch-join (changeAt changes) a b c h l)) (names-append (cut a b) (cut b c) row)
@@ -62,7 +63,8 @@ module _ (changes : List ℕ) (row : ℕ) where
   -- what the search for a change that names the row meets
   module _ (from to p : ℕ) (e : false ≡ in-cut from p) (h : from ≤ p) where
     pub named-here : p < to → changeRow changes p ≡ row → true ≡ in-cut from to
-    named-here l q = rw (names-join from (p + 1) to (omega arith) (omega arith), names-more from p h, ← e, eq-eqb (changeRow changes p) row q)
+    named-here l q =
+        rw (names-join from (p + 1) to (omega arith) (omega arith), names-more from p h, ← e, eq-eqb (changeRow changes p) row q)
 
     pub named-past : (changeRow changes p ≡ row → ⊥) → false ≡ in-cut from (p + 1)
     named-past n = rw (names-more from p h, ← e, ne-eqb (changeRow changes p) row n)
@@ -134,14 +136,16 @@ module _ (changes : List ℕ) (row : ℕ) where
   last-at a (suc n) = go (lt-cases n a) (last-at a n)
     where
       at : (t : Bool) → a ≤ n
-          → orElse (cond t (some (changeSet changes n)) none) (setFrom a (lastPlace changes row n)) ≡ setFrom a (cond t (suc n) (lastPlace changes row n))
+          → orElse (cond t (some (changeSet changes n)) none) (setFrom a (lastPlace changes row n))
+          ≡ setFrom a (cond t (suc n) (lastPlace changes row n))
       at true h = let z : suc n - 1 ≡ n = omega arith in rw (lt-ltb a (suc n) (omega arith), z)
       at false h = refl
 
       go : (n < a) ⊎ (a ≤ n) → lastNaming (cut a n) row ≡ setFrom a (lastPlace changes row n)
           → lastNaming (cut a (suc n)) row ≡ setFrom a (lastPlace changes row (suc n))
       go (inl h) ih =
-          rw (stretch-none (changeAt changes) a (suc n) (omega arith), le-ltb a (lastPlace changes row (suc n)) (omega (arith, place-le (suc n))))
+          let l = lastPlace changes row (suc n) in
+          rw (stretch-none (changeAt changes) a (suc n) (omega arith), le-ltb a l (omega (arith, place-le (suc n))))
       go (inr h) ih = last-more a n h ∙ rw ih (at (eqb (changeRow changes n) row) h)
 
   -- what the code finds, where a change names the row and where none does
@@ -153,7 +157,8 @@ module _ (changes : List ℕ) (row : ℕ) where
     pub place-fits : (at ≡ 0 → ⊥) → to ≤ 2048 → at - 1 < 2048
     place-fits n h = omega (arith, place-le to)
 
-    pub last-some : (set : ℕ) → (at ≡ 0 → ⊥) → set ≡ changeSet changes (at - 1) → _≡_ {A = Last} (record { at = at; set = set }) (lastOf changes to row)
+    pub last-some : (set : ℕ) → (at ≡ 0 → ⊥) → set ≡ changeSet changes (at - 1)
+        → _≡_ {A = Last} (record { at = at; set = set }) (lastOf changes to row)
     unfolding lastOf lastSet
     last-some set n q = rw (last-at 0 to, ← e, lt-ltb 0 at (omega arith), q)
 
@@ -178,7 +183,8 @@ module _ (changes : List ℕ) (v r : ℕ) where
   unfolding flippedIn lastSet
   flipped-more a p h =
       go (eqb (changeRow changes p) r)
-      ∙ ap (λ (o : Option ℕ). bit (orEmpty o) v) (sym (ap (λ (k : ℕ). lastNaming (stretch (changeAt changes) a k) r) (add-one p) ∙ last-more changes r a p h))
+      ∙ ap (λ (o : Option ℕ). bit (orEmpty o) v)
+      (sym (ap (λ (k : ℕ). lastNaming (stretch (changeAt changes) a k) r) (add-one p) ∙ last-more changes r a p h))
     where
       go : (t : Bool) → cond t (bit (changeSet changes p) v) (bit (orEmpty (lastNaming (stretch (changeAt changes) a p) r)) v)
           ≡ bit (orEmpty (orElse (cond t (some (changeSet changes p)) none) (lastNaming (stretch (changeAt changes) a p) r))) v
@@ -201,7 +207,8 @@ module _ (changes : List ℕ) (from to v : ℕ) where
   mask-more p m m′ f h l e q =
       q ∙ ap (λ (w : List ℕ). putAt w (changeRow changes p) (bit (changeSet changes p) v)) e
       ∙ put-vec (flippedIn changes from p v) 32 (changeRow changes p) (omega (arith, f .rows-low p h l)) (bit (changeSet changes p) v)
-      ∙ vec-ext (λ r. cond (eqb (changeRow changes p) r) (bit (changeSet changes p) v) (flippedIn changes from p v r)) (flippedIn changes from (p + 1) v) 32
+      ∙ vec-ext (λ r. cond (eqb (changeRow changes p) r) (bit (changeSet changes p) v) (flippedIn changes from p v r))
+      (flippedIn changes from (p + 1) v) 32
       (λ r k. flipped-more changes v r from p h)
 
   pub mask-all : (p : ℕ) (m : List ℕ) → from ≤ p → p - to ≤ from - to → to ≤ p → m ≡ vec (flippedIn changes from p v) 32
@@ -216,7 +223,8 @@ module _ (changes : List ℕ) (from to v : ℕ) where
           (λ r n. flipped-none changes v r from p (omega arith) ∙ sym (flipped-none changes v r from to o))
 
 -- the change that a mark is of
-pub mark-is : (m m′ changes : List ℕ) (p v row row′ set : ℕ) (on : Bool) → row ≡ changeRow changes p → set ≡ changeSet changes p → on ≡ bit set v
+pub mark-is : (m m′ changes : List ℕ) (p v row row′ set : ℕ) (on : Bool) → row ≡ changeRow changes p → set ≡ changeSet changes p
+    → on ≡ bit set v
     → row′ ≡ row → m′ ≡ putAt m row′ on → m′ ≡ marked m changes p v
 unfolding marked
 mark-is m m′ changes p v row row′ set on e q o z x = x ∙ ap₂ (putAt m) (z ∙ e) (o ∙ ap (λ (n : ℕ). bit n v) q)

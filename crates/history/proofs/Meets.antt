@@ -104,7 +104,8 @@ module _ (t : Tables) (good : sound t ≡ true) where
           (flipped (meaning t .log) (chain (meaning t .chains) v) s v) 2048 (λ r l. flipped-meets r)
 
       pub scratch-meets : (scratch : List ℕ) → scratchAt (t .slots) (t .words) (t .heads) (t .log) (t .changes) scratch s v
-          ≡ cond (eqb (flipCount (meaning t .log) (chain (meaning t .chains) v) s v) 0) scratch (frontFilled (queried (meaning t .log) (chain (meaning t .chains) v) s v) scratch)
+          ≡ cond (eqb (flipCount (meaning t .log) (chain (meaning t .chains) v) s v) 0) scratch
+          (frontFilled (queried (meaning t .log) (chain (meaning t .chains) v) s v) scratch)
       unfolding scratchAt scratchSince frontFilled foundAt queriedAt
       scratch-meets scratch = rw (count-meets, vec-ext _ _ 32 (λ r l. queried-meets r))
 

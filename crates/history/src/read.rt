@@ -85,7 +85,8 @@ pub fn read_at(
 ) -> Standing
     requires { ⌜ ReadReady (now slots) (now words) (now heads) (now log) (now changes) (values .0) (s .0) ⌝ }
     ensures { λ r. ⌜ standingOf r ≡ readCells
-        (now (slots .entry)) (now (words .entry)) (now (heads .entry)) (now (log .entry)) (now (changes .entry)) (values .0) (s .0) (row .0) ⌝ }
+        (now (slots .entry)) (now (words .entry)) (now (heads .entry)) (now (log .entry)) (now (changes .entry))
+        (values .0) (s .0) (row .0) ⌝ }
 {
     let last = changes::last_naming(changes, tables::end_at(log, s), row);
     read_after(slots, words, heads, log, values, s, row, last)

@@ -82,7 +82,8 @@ module _ (C : ℕ) (col : Column) (rows : ℕ) (log : Log) (h : List Event) (c :
         (λ k l r a q. c .valued k r a l (rw (column-old col h e k l) at q))
         (λ r a q. n .next-valued r a (rw (column-new col h e) at q))
 
-    grown-seen : (r : ℕ) (k : ℕ) → k ≤ length (more h e) → r < length (columnAfter col (more h e) k) → names (changesOf (above (grown log x) k)) r ≡ touched (drop k (more h e)) r
+    grown-seen : (r : ℕ) (k : ℕ) → k ≤ length (more h e) → r < length (columnAfter col (more h e) k)
+        → names (changesOf (above (grown log x) k)) r ≡ touched (drop k (more h e)) r
     unfolding more
     grown-seen r =
         each h e (λ k. r < length (columnAfter col (more h e) k) → names (changesOf (above (grown log x) k)) r ≡ touched (drop k (more h e)) r) old
@@ -195,7 +196,8 @@ module _ (log : Log) (ch : Chain) (v : ℕ) (col : Column) (h : List Event) (a :
     module _ (ch′ : Chain) (head : newest ch′ .stamp ≤ suc (length h)) (older : (k : ℕ) → k ≤ length h → versionAt ch′ k ≡ versionAt ch k)
         (place : newest ch′ .stamp ≡ cond (isTidyOf v e) (suc (length h)) (lastTidy v h))
         (free : (r : ℕ) → bit (flipSet (grown log x) (newest ch′ .stamp) r) v ≡ false)
-        (made : (r : ℕ) → xorb (newest ch′ .vector r) (bit (flipSet (grown log x) (suc (stampOf log)) r) v) ≡ holds (cell (replay (replay col h) (e ∷ [])) r) v) where
+        (made : (r : ℕ) → xorb (newest ch′ .vector r) (bit (flipSet (grown log x) (suc (stampOf log)) r) v)
+        ≡ holds (cell (replay (replay col h) (e ∷ [])) r) v) where
       now : versionAt ch′ (suc (length h)) ≡ newest ch′
       now = version-newest ch′ (suc (length h)) head
 
@@ -215,7 +217,8 @@ module _ (log : Log) (ch : Chain) (v : ℕ) (col : Column) (h : List Event) (a :
           (λ k l. rw (older k l, old-set (versionAt ch k .stamp) r (omega (arith, version-before ch k))) (a .clean k r l))
           (rw now (free r))
 
-      next-right : (r k : ℕ) → k ≤ length (more h e) → xorb (versionAt ch′ k .vector r) (bit (flipSet (grown log x) k r) v) ≡ holds (cell (columnAfter col (more h e) k) r) v
+      next-right : (r k : ℕ) → k ≤ length (more h e)
+          → xorb (versionAt ch′ k .vector r) (bit (flipSet (grown log x) k r) v) ≡ holds (cell (columnAfter col (more h e) k) r) v
       unfolding more
       next-right r =
           each h e (λ k. xorb (versionAt ch′ k .vector r) (bit (flipSet (grown log x) k r) v) ≡ holds (cell (columnAfter col (more h e) k) r) v)
@@ -243,7 +246,8 @@ module _ (log : Log) (ch : Chain) (v : ℕ) (col : Column) (h : List Event) (a :
         next ch (omega (arith, a .head-old)) (λ k l. refl)
         (rw (t, ← n) (a .placed (length h) (omega arith) ∙ rw take-length))
         (λ r. rw (flipSet-old log x (newest ch .stamp) r (omega (arith, p, a .head-old)), ← n) (a .clean (length h) r (omega arith)))
-        (λ r. rw (turns r, ← (right-now p r)) (turned (newest ch .vector r) (bit (flipSet log (stampOf log) r) v) (holds (cell (replay (replay col h) (e ∷ [])) r) v)))
+        (λ r. rw (turns r, ← (right-now p r)) (turned (newest ch .vector r) (bit (flipSet log (stampOf log) r) v)
+        (holds (cell (replay (replay col h) (e ∷ [])) r) v)))
 
     -- the value gets a new version: it is the column, and no flip set has the value
     pub agrees-renewed : (f : ℕ → Bool) → isTidyOf v e ≡ true

@@ -49,7 +49,8 @@ rows-naming g (add v ∷ es) r o = rows-naming g es r o
 rows-naming g (alter q t ∷ es) r o = rw (rows-naming g es r (o .1)) (go (eq-cases q r))
   where
     go : (q ≡ r) ⊎ (q ≡ r → ⊥)
-        → orElse (Option·map (g r) (target es r)) (cond (eqb q r) (some (g q t)) none) ≡ Option·map (g r) (cond (eqb q r) (some t) (target es r))
+        → orElse (Option·map (g r) (target es r)) (cond (eqb q r) (some (g q t)) none)
+        ≡ Option·map (g r) (cond (eqb q r) (some t) (target es r))
     go (inl e) = rw (no-target es r (rw e at (o .0)), eq-eqb q r e, e)
     go (inr d) = rw (ne-eqb q r d) (orElse-none (Option·map (g r) (target es r)))
 
@@ -59,7 +60,8 @@ rows-names g (alter q t ∷ es) r = rw (rows-names g es r)
 rows-names g (add v ∷ es) r = rows-names g es r
 
 -- two sets for each listed row that are one make the same changes
-rows-same : (f g : ℕ → Option ℕ → ℕ) (es : List Entry) → ((r : ℕ) (t : Option ℕ) → lists es r ≡ true → f r t ≡ g r t) → rowChanges f es ≡ rowChanges g es
+rows-same : (f g : ℕ → Option ℕ → ℕ) (es : List Entry) → ((r : ℕ) (t : Option ℕ) → lists es r ≡ true → f r t ≡ g r t)
+    → rowChanges f es ≡ rowChanges g es
 rows-same f g [] e = refl
 rows-same f g (alter q t ∷ es) e =
     rw (e q t (rw (eq-eqb q q refl)), rows-same f g es (λ r u l. e r u (rw l (or-true (eqb q r)))))
@@ -70,11 +72,13 @@ inserts-low : (n : ℕ) (vs : List ℕ) (r : ℕ) → r < n → lastNaming (inse
 inserts-low n [] r l = refl
 inserts-low n (v ∷ vs) r l = rw (inserts-low (suc n) vs r (omega arith), ne-eqb n r (omega arith))
 
-inserts-at : (n : ℕ) (vs : List ℕ) (r i : ℕ) → r ≡ n + i → lastNaming (insertChanges n vs) r ≡ Option·map (flipBit 0) (getD (map some vs) i none)
+inserts-at : (n : ℕ) (vs : List ℕ) (r i : ℕ) → r ≡ n + i
+    → lastNaming (insertChanges n vs) r ≡ Option·map (flipBit 0) (getD (map some vs) i none)
 inserts-at n [] r i e = refl
 inserts-at n (v ∷ vs) r zero e = rw (inserts-low (suc n) vs r (omega arith), eq-eqb n r (omega arith))
 inserts-at n (v ∷ vs) r (suc i) e =
-    rw (inserts-at (suc n) vs r i (omega arith), ne-eqb n r (omega arith)) (orElse-none (Option·map (flipBit 0) (getD (map some vs) i none)))
+    rw (inserts-at (suc n) vs r i (omega arith), ne-eqb n r (omega arith))
+    (orElse-none (Option·map (flipBit 0) (getD (map some vs) i none)))
 
 -- ---- lists that fit
 
@@ -105,7 +109,8 @@ fits-more C n m (add v ∷ es) l f = (f .0, fits-more C n m es l (f .1))
 
 -- the record of a commit: the set for each listed row from g, then the inserts
 abbrev pub commitOf : (ℕ → Option ℕ → ℕ) → ℕ → List Entry → Record
-commitOf g rows es = record { kind = commits; rows = rows + length (inserts es); changes = rowChanges g es ++ insertChanges rows (inserts es) }
+commitOf g rows es =
+    record { kind = commits; rows = rows + length (inserts es); changes = rowChanges g es ++ insertChanges rows (inserts es) }
 
 -- ---- the log after a commit, and one value's versions
 
@@ -115,7 +120,9 @@ module _ (C : ℕ) (col : Column) (rows : ℕ) (log : Log) (h : List Event) (c :
   added : ℕ → Option ℕ
   added r = getD (map some (inserts es)) (r - rows) none
 
-  naming-at : (r : ℕ) → lastNaming (commitOf g rows es .changes) r ≡ orElse (lastNaming (insertChanges rows (inserts es)) r) (Option·map (g r) (target es r))
+  naming-at : (r : ℕ)
+      → lastNaming (commitOf g rows es .changes) r ≡ orElse (lastNaming (insertChanges rows (inserts es)) r)
+      (Option·map (g r) (target es r))
   naming-at r = rw (lastNaming-append (rowChanges g es) (insertChanges rows (inserts es)) r, rows-naming g es r once)
 
   low-naming : (r : ℕ) → r < rows → lastNaming (commitOf g rows es .changes) r ≡ Option·map (g r) (target es r)
@@ -124,7 +131,8 @@ module _ (C : ℕ) (col : Column) (rows : ℕ) (log : Log) (h : List Event) (c :
   high-naming : (r : ℕ) → rows ≤ r → lastNaming (commitOf g rows es .changes) r ≡ Option·map (flipBit 0) (added r)
   unfolding added
   high-naming r l =
-      naming-at r ∙ rw (fits-high C rows es r fits l, inserts-at rows (inserts es) r (r - rows) (omega arith)) (orElse-none (Option·map (flipBit 0) (getD (map some (inserts es)) (r - rows) none)))
+      naming-at r ∙ rw (fits-high C rows es r fits l, inserts-at rows (inserts es) r (r - rows) (omega arith))
+      (orElse-none (Option·map (flipBit 0) (getD (map some (inserts es)) (r - rows) none)))
 
   low-cell : (r : ℕ) → r < rows → cell (met (replay col h) ws) r ≡ standing (target es r) (cell (replay col h) r)
   low-cell r l =
@@ -160,28 +168,36 @@ module _ (C : ℕ) (col : Column) (rows : ℕ) (log : Log) (h : List Event) (c :
       )
       (or-false (lists es r))
 
-  pub commit-logged : rows + length (inserts es) ≤ maxRows → Logged C col (rows + length (inserts es)) (grown log (commitOf g rows es)) (h ++ (committed ws ∷ []))
+  pub commit-logged : rows + length (inserts es) ≤ maxRows
+      → Logged C col (rows + length (inserts es)) (grown log (commitOf g rows es)) (h ++ (committed ws ∷ []))
   unfolding added
   commit-logged room =
       grow-logged C col rows log h c (commitOf g rows es) (committed ws)
       record {
-        next-rows = rw (length-met (replay col h) ws, same .adds, c .rows-now) (ap (λ (n : ℕ). length (replay col h) + n) (sym (length-map (inserts es) some)));
+        next-rows =
+            rw (length-met (replay col h) ws, same .adds, c .rows-now)
+            (ap (λ (n : ℕ). length (replay col h) + n) (sym (length-map (inserts es) some)));
         next-fit = room;
         next-valued = commit-valued;
-        next-within = λ r l. high-naming r (omega arith) ∙ rw (List·getD-eq-default (map some (inserts es)) none {n = r - rows} (omega (arith, length-map (inserts es) some)));
+        next-within =
+            λ r l. high-naming r (omega arith) ∙ rw (List·getD-eq-default (map some (inserts es)) none {n =
+            r - rows} (omega (arith, length-map (inserts es) some)));
         next-seen = commit-seen;
       }
 
   -- a value agrees after the commit where the sets turn its rows as the list asks
   pub commit-agrees : (ch : Chain) (v : ℕ) → Agrees log ch v col h
-      → ((r : ℕ) (t : Option ℕ) → lists es r ≡ true → bit (g r t) v ≡ xorb (bit (flipSet log (stampOf log) r) v) (xorb (holds (cell (replay col h) r) v) (holds t v)))
+      → ((r : ℕ) (t : Option ℕ) → lists es r ≡ true → bit (g r t) v ≡ xorb (bit (flipSet log (stampOf log) r) v)
+      (xorb (holds (cell (replay col h) r) v) (holds t v)))
       → Agrees (grown log (commitOf g rows es)) ch v col (h ++ (committed ws ∷ []))
   unfolding added
   commit-agrees ch v a turns =
-      agrees-kept log ch v col h a (c .pace) (commitOf g rows es) (committed ws) refl (λ r. rw (flipSet-new log (commitOf g rows es) r) (go r (lt-cases r rows)))
+      agrees-kept log ch v col h a (c .pace) (commitOf g rows es) (committed ws) refl
+      (λ r. rw (flipSet-new log (commitOf g rows es) r) (go r (lt-cases r rows)))
     where
       low : (r : ℕ) (o : Option (Option ℕ)) → target es r ≡ o → bit (Option·getD (Option·map (g r) o) (flipSet log (stampOf log) r)) v
-          ≡ xorb (bit (flipSet log (stampOf log) r) v) (xorb (holds (cell (replay col h) r) v) (holds (standing o (cell (replay col h) r)) v))
+          ≡ xorb (bit (flipSet log (stampOf log) r) v)
+          (xorb (holds (cell (replay col h) r) v) (holds (standing o (cell (replay col h) r)) v))
       low r none q = turn-none (bit (flipSet log (stampOf log) r) v) (holds (cell (replay col h) r) v)
       low r (some t) q = turns r t (lists-target es r ∙ rw q)
 
@@ -189,7 +205,8 @@ module _ (C : ℕ) (col : Column) (rows : ℕ) (log : Log) (h : List Event) (c :
       high none = sym (xorb-false (bit 0 v))
       high (some u) = bit-flip 0 u v ∙ xorb-comm (eqb u v) (bit 0 v)
 
-      go : (r : ℕ) → (r < rows) ⊎ (rows ≤ r) → bit (Option·getD (lastNaming (commitOf g rows es .changes) r) (flipSet log (stampOf log) r)) v
+      go : (r : ℕ) → (r < rows) ⊎ (rows ≤ r)
+          → bit (Option·getD (lastNaming (commitOf g rows es .changes) r) (flipSet log (stampOf log) r)) v
           ≡ xorb (bit (flipSet log (stampOf log) r) v) (xorb (holds (cell (replay col h) r) v) (holds (cell (met (replay col h) ws) r) v))
       go r (inl l) = rw (low-naming r l, low-cell r l) (low r (target es r) refl)
       go r (inr l) =
@@ -241,12 +258,14 @@ module _ (C : ℕ) (col : Column) (rows : ℕ) (log : Log) (chains : List Chain)
     (fits : EntriesFit C (length (columnAfter col h s)) es) (room : rows + length (inserts es) ≤ maxRows) where
   -- with the sets at the present stamp, where each listed row holds now what it held at s
   pub commit-present : ((r : ℕ) → lists es r ≡ true → cell (replay col h) r ≡ cell (columnAfter col h s) r)
-      → Core C col (rows + length (inserts es)) (grown log (commitOf (newSet C log chains (stampOf log) s) rows es)) chains (h ++ (committed ws ∷ []))
+      → Core C col (rows + length (inserts es)) (grown log (commitOf (newSet C log chains (stampOf log) s) rows es)) chains
+      (h ++ (committed ws ∷ []))
   commit-present held =
       record {
         logged = commit-logged C col rows log h (c .logged) es ws same once now g room;
         width = c .width;
-        agrees = λ v l. commit-agrees C col rows log h (c .logged) es ws same once now g (chain chains v) v (c .agrees v l) (λ r t. turns v r t);
+        agrees =
+            λ v l. commit-agrees C col rows log h (c .logged) es ws same once now g (chain chains v) v (c .agrees v l) (λ r t. turns v r t);
       }
     where
       now : EntriesFit C rows es
@@ -255,7 +274,8 @@ module _ (C : ℕ) (col : Column) (rows : ℕ) (log : Log) (chains : List Chain)
       g : ℕ → Option ℕ → ℕ
       g = newSet C log chains (stampOf log) s
 
-      turns : (v r : ℕ) (t : Option ℕ) → lists es r ≡ true → bit (g r t) v ≡ xorb (bit (flipSet log (stampOf log) r) v) (xorb (holds (cell (replay col h) r) v) (holds t v))
+      turns : (v r : ℕ) (t : Option ℕ) → lists es r ≡ true
+          → bit (g r t) v ≡ xorb (bit (flipSet log (stampOf log) r) v) (xorb (holds (cell (replay col h) r) v) (holds t v))
       turns v r t l =
           let m = flipSet log (stampOf log) r in
           let a = readAt C log chains s r in
@@ -271,7 +291,8 @@ module _ (C : ℕ) (col : Column) (rows : ℕ) (log : Log) (chains : List Chain)
       unnamed : (r : ℕ) → lists es r ≡ true → names (changesOf (above log s)) r ≡ false
       unnamed r l = go (bool-cases (names (changesOf (above log s)) r))
         where
-          go : (names (changesOf (above log s)) r ≡ true) ⊎ (names (changesOf (above log s)) r ≡ false) → names (changesOf (above log s)) r ≡ false
+          go : (names (changesOf (above log s)) r ≡ true) ⊎ (names (changesOf (above log s)) r ≡ false)
+              → names (changesOf (above log s)) r ≡ false
           go (inl n) = absurd (clash (conflicts-means log s es .1 (r, l, n)) calm)
           go (inr n) = n
 
@@ -315,7 +336,8 @@ module _ (mk : ℕ → Change) (own : (q : ℕ) → mk q .row ≡ q) where
   map-naming (q ∷ rs) r = rw (map-naming rs r, own q) (go (inRows rs r) (eq-cases q r))
     where
       go : (b : Bool) → (q ≡ r) ⊎ (q ≡ r → ⊥)
-          → orElse (cond b (some (mk r .flips)) none) (cond (eqb q r) (some (mk q .flips)) none) ≡ cond (eqb q r || b) (some (mk r .flips)) none
+          → orElse (cond b (some (mk r .flips)) none) (cond (eqb q r) (some (mk q .flips)) none)
+          ≡ cond (eqb q r || b) (some (mk r .flips)) none
       go true (inl e) = rw (eq-eqb q r e)
       go true (inr d) = rw (ne-eqb q r d)
       go false (inl e) = rw (eq-eqb q r e, e)
@@ -346,7 +368,8 @@ module _ (log : Log) (ch : Chain) (s v : ℕ) (fresh : stale log ch s v ≡ fals
       go : Later r → bit (flipSet log (stampOf log) r) v ≡ moves log s v r
       go (inl e) = rw (flipSet-kept log s r e)
       go (inr p) =
-          rw (last-fails (λ c. moves log s v (c .row)) (changesOf (above log s)) r (p .0) (fresh-parts .1) (p .1), flipSet-since log s r, p .1)
+          let f = last-fails (λ c. moves log s v (c .row)) (changesOf (above log s)) r (p .0) (fresh-parts .1) (p .1) in
+          rw (f, flipSet-since log s r, p .1)
           (last-fails (λ c. bit (c .flips) v) (changesOf (above log s)) r (p .0) (fresh-parts .2) (p .1))
 
   -- and the set of a moved row is what it was
@@ -364,10 +387,12 @@ module _ (log : Log) (ch : Chain) (s v : ℕ) (fresh : stale log ch s v ≡ fals
         map-naming (tidyChange log s v) (λ q. refl) (rowsBelow (moves log s v) maxRows) r ∙ rw (in-rows (moves log s v) maxRows r (low r))
 
     -- every set loses v, and nothing else
-    tidy-sets : (r w : ℕ) → bit (flipSet (grown log (tidyOf log rows s v)) (suc (stampOf log)) r) w ≡ (not (eqb v w) && bit (flipSet log (stampOf log) r) w)
+    tidy-sets : (r w : ℕ)
+        → bit (flipSet (grown log (tidyOf log rows s v)) (suc (stampOf log)) r) w ≡ (not (eqb v w) && bit (flipSet log (stampOf log) r) w)
     tidy-sets r w = rw (flipSet-new log (tidyOf log rows s v) r, tidy-naming r) (go (bool-cases (moves log s v r)))
       where
-        kept : (v ≡ w) ⊎ (v ≡ w → ⊥) → moves log s v r ≡ false → bit (flipSet log (stampOf log) r) w ≡ (not (eqb v w) && bit (flipSet log (stampOf log) r) w)
+        kept : (v ≡ w) ⊎ (v ≡ w → ⊥) → moves log s v r ≡ false
+            → bit (flipSet log (stampOf log) r) w ≡ (not (eqb v w) && bit (flipSet log (stampOf log) r) w)
         kept (inl e) t = rw (← e, eq-eqb v v refl) (same-bit r ∙ t)
         kept (inr d) t = rw (ne-eqb v w d)
 
@@ -401,7 +426,8 @@ module _ (C : ℕ) (col : Column) (rows : ℕ) (log : Log) (chains : List Chain)
   -- v's rows are now as they were at s
   agree : (r : ℕ) → holds (cell (columnAfter col h s) r) v ≡ holds (cell (replay col h) r) v
   agree r =
-      rw (← (right-now log ch v col h a (c .logged .pace) r), ← (a .right s r old), version-newest ch s (fresh-parts log ch s v fresh .0), same-bit log ch s v fresh r)
+      let n = version-newest ch s (fresh-parts log ch s v fresh .0) in
+      rw (← (right-now log ch v col h a (c .logged .pace) r), ← (a .right s r old), n, same-bit log ch s v fresh r)
 
   -- the record and the version of the tidy
   abbrev x : Record
@@ -418,7 +444,8 @@ module _ (C : ℕ) (col : Column) (rows : ℕ) (log : Log) (chains : List Chain)
         next-rows = c .logged .rows-now;
         next-fit = c .logged .rows-fit;
         next-valued = valued-now C col rows log h (c .logged);
-        next-within = λ r l. tidy-naming log ch s v fresh low rows r ∙ rw (unmoved r (omega (arith, column-grows col h s, c .logged .rows-now)));
+        next-within =
+            λ r l. tidy-naming log ch s v fresh low rows r ∙ rw (unmoved r (omega (arith, column-grows col h s, c .logged .rows-now)));
         next-seen = λ r l. map-names (tidyChange log s v) (λ q. refl) (moved log s v) r;
       }
 
@@ -434,8 +461,10 @@ module _ (C : ℕ) (col : Column) (rows : ℕ) (log : Log) (chains : List Chain)
           let o : eqb v w ≡ false = ne-eqb v w (λ e. d (sym e)) in
           rw (getD-set-other chains v w (y ∷ ch) [] d)
           (agrees-kept log (chain chains w) w col h (c .agrees w l) (c .logged .pace) x (tidied v (moved log s v)) o
-          (λ r. tidy-sets log ch s v fresh low rows r w ∙ rw o (turn-none (bit (flipSet log (stampOf log) r) w) (holds (cell (replay col h) r) w))))
+          (λ r. tidy-sets log ch s v fresh low rows r w
+          ∙ rw o (turn-none (bit (flipSet log (stampOf log) r) w) (holds (cell (replay col h) r) w))))
 
   pub tidy-keeps : Core C col rows (grown log (tidyOf log rows s v))
-      (set chains v (record { stamp = suc (stampOf log); vector = queried log (chain chains v) s v } ∷ chain chains v)) (h ++ (tidied v (moved log s v) ∷ []))
+      (set chains v (record { stamp = suc (stampOf log); vector = queried log (chain chains v) s v } ∷ chain chains v))
+      (h ++ (tidied v (moved log s v) ∷ []))
   tidy-keeps = record { logged = tidy-logged; width = length-set chains v (y ∷ ch) ∙ c .width; agrees = tidy-agrees }

@@ -59,7 +59,8 @@ module _ (st : State) (o : Observer) (inv : Inv st o) where
 
   -- ---- query and read
 
-  pub query-lists : (i v t : ℕ) (x : Session) (y : Visitor) → SitsNow x y → visitor o i ≡ y → isFree x ≡ false → v < st .values → RightQuery o i v t (querying st (startOf x) v t)
+  pub query-lists : (i v t : ℕ) (x : Session) (y : Visitor) → SitsNow x y → visitor o i ≡ y → isFree x ≡ false → v < st .values
+      → RightQuery o i v t (querying st (startOf x) v t)
   query-lists i v t free y q e b l = absurd (true≢false b)
   query-lists i v t (opened s n es) away q e b l = absurd q
   query-lists i v t (opened s n es) (sitting k ws) q e b l =
@@ -197,10 +198,12 @@ module _ (st : State) (o : Observer) (inv : Inv st o) where
   relisted-count i es p b q =
       let l : i < length (st .sessions) = omega (arith, leb-false maxSessions i b, inv .sessions-are) in
       let x : Session = opened (startOf (session st i)) (rowsOf (session st i)) es in
-      ap (λ (n : ℕ). n ∷ []) (sym (ap (λ (y : Session). length (listOf y)) (getD-set-same (st .sessions) i x free l)) ∙ list-count (relisted st i (session st i) es .0) p q i)
+      ap (λ (n : ℕ). n ∷ []) (sym (ap (λ (y : Session). length (listOf y)) (getD-set-same (st .sessions) i x free l))
+      ∙ list-count (relisted st i (session st i) es .0) p q i)
 
   -- commit's numbers, where it is accepted
-  commit-numbers : (i : ℕ) → AllFail (tests st (commit i)) → Numbers (suc (length (o .events)) ∷ length (columnNow (accepts o (commit i))) ∷ []) (effect st (commit i) .1)
+  commit-numbers : (i : ℕ) → AllFail (tests st (commit i))
+      → Numbers (suc (length (o .events)) ∷ length (columnNow (accepts o (commit i))) ∷ []) (effect st (commit i) .1)
   unfolding effect watches
   commit-numbers i p = ap₂ (λ (a b : ℕ). a ∷ b ∷ []) (ap suc (inv .core .logged .pace)) (accepted st o inv (commit i) p .core .logged .rows-now)
 
@@ -215,7 +218,8 @@ module _ (st : State) (o : Observer) (inv : Inv st o) where
       (ltb maxChanges (length (allChanges (st .log)) + length (listOf x))) _ _)
 
   -- and that is what the observer sees
-  commit-conflict : (i k : ℕ) (w : Wish) (ws : List Wish) → visitor o i ≡ sitting k (w ∷ ws) → (step st (commit i) .1 ≡ refused 12) ↔ Overtaken (drop k (o .events)) (w ∷ ws)
+  commit-conflict : (i k : ℕ) (w : Wish) (ws : List Wish) → visitor o i ≡ sitting k (w ∷ ws)
+      → (step st (commit i) .1 ≡ refused 12) ↔ Overtaken (drop k (o .events)) (w ∷ ws)
   commit-conflict i k w ws e =
       let p = behind st o inv k (w ∷ ws) (session st i) (visitor o i) (inv .sat i) e in
       let b : isFree (session st i) ≡ false = rw (p .3) in

@@ -64,7 +64,8 @@ pub flipSet-old : (log : Log) (x : Record) (k r : ℕ) → k ≤ stampOf log →
 unfolding flipSet stampOf upTo grown
 flipSet-old log x k r h = rw (take-append-le k log (x ∷ []) h)
 
-pub flipSet-new : (log : Log) (x : Record) (r : ℕ) → flipSet (grown log x) (suc (stampOf log)) r ≡ Option·getD (lastNaming (x .changes) r) (flipSet log (stampOf log) r)
+pub flipSet-new : (log : Log) (x : Record) (r : ℕ)
+    → flipSet (grown log x) (suc (stampOf log)) r ≡ Option·getD (lastNaming (x .changes) r) (flipSet log (stampOf log) r)
 unfolding flipSet stampOf upTo grown
 flipSet-new log x r =
     rw (take-snoc log x, changesOf-snoc log x, lastNaming-append (changesOf log) (x .changes) r, take-length)

@@ -173,7 +173,8 @@ last-hold : (ws : List Wish) (p : ℕ) (u : Option ℕ) (r : ℕ) → lastWish (
 last-hold [] p u r = refl
 last-hold (hold q t ∷ ws) p u r = rw (last-hold ws p u r) (go (eqb p r))
   where
-    go : (b : Bool) → orElse (cond b (some u) (lastWish ws r)) (cond (eqb q r) (some t) none) ≡ cond b (some u) (orElse (lastWish ws r) (cond (eqb q r) (some t) none))
+    go : (b : Bool)
+        → orElse (cond b (some u) (lastWish ws r)) (cond (eqb q r) (some t) none) ≡ cond b (some u) (orElse (lastWish ws r) (cond (eqb q r) (some t) none))
     go true = refl
     go false = refl
 last-hold (grow v ∷ ws) p u r = last-hold ws p u r

@@ -37,10 +37,12 @@ use Rattle.rules.proofs.Fits.{vectors-grown, session-grown}
 
 -- ---- a list changed at one place
 
-chain-set : (P : Chain → Type 0) (cs : List Chain) (v : ℕ) (new : Chain) (C : ℕ) → v < length cs → P new → ((u : ℕ) → u < C → P (chain cs u))
+chain-set : (P : Chain → Type 0) (cs : List Chain) (v : ℕ) (new : Chain) (C : ℕ) → v < length cs → P new
+    → ((u : ℕ) → u < C → P (chain cs u))
     → (u : ℕ) → u < C → P (chain (set cs v new) u)
 chain-set P cs v new C l p h u k =
-    ⊎-elim (λ (e : u ≡ v). rw (e, getD-set-same cs v new [] l) p) (λ (d : u ≡ v → ⊥). rw (getD-set-other cs v u new [] d) (h u k)) (eq-cases u v)
+    ⊎-elim (λ (e : u ≡ v). rw (e, getD-set-same cs v new [] l) p) (λ (d : u ≡ v → ⊥). rw (getD-set-other cs v u new [] d) (h u k))
+    (eq-cases u v)
 
 -- ---- create
 
@@ -76,7 +78,8 @@ module _ (st : State) (w : Undamaged st) where
   seated-undamaged i x h =
       let ss = st .sessions in
       let a : length (set ss i x) ≡ maxSessions = length-set ss i x ∙ w .sessions-are in
-      let b = pair-set (λ (y z : Session). SessionFits (st .values) (st .first) (st .log) y) free free ss ss refl (w .sessions-fit) i x x h in
+      let b = pair-set (λ (y z : Session). SessionFits (st .values) (st .first) (st .log) y) free free ss ss refl (w .sessions-fit) i x x
+      h in
       search
 
   begin-undamaged : (i : ℕ) (x : Session) → Undamaged (beginning st i x .0)
@@ -207,7 +210,8 @@ module _ (st : State) (w : Undamaged st) where
   effect-undamaged (update i r v) p =
       let x = session st i in
       relist-undamaged st w i x _ (w .sessions-fit i) (p .1 .0)
-      (put-kept (st .values) (rowsOf x) (listOf x) r (some v) (leb-false _ _ (p .1 .1 .1 .0)) (leb-false _ _ (p .1 .1 .0)) (p .1 .1 .1 .1 .1 .0))
+      (put-kept (st .values) (rowsOf x) (listOf x) r (some v) (leb-false _ _ (p .1 .1 .1 .0)) (leb-false _ _ (p .1 .1 .0))
+      (p .1 .1 .1 .1 .1 .0))
   effect-undamaged (delete i r) p =
       let x = session st i in
       relist-undamaged st w i x _ (w .sessions-fit i) (p .1 .0)
@@ -217,7 +221,8 @@ module _ (st : State) (w : Undamaged st) where
       relist-undamaged st w i x _ (w .sessions-fit i) (p .1 .0)
       (insert-kept (st .values) (rowsOf x) (listOf x) v (leb-false _ _ (p .1 .1 .0)) (p .1 .1 .1 .0))
   effect-undamaged (commit i) p =
-      commit-undamaged i (session st i) (w .sessions-fit i) (p .1 .0) (ltb-false _ _ (p .1 .1 .1 .1 .0)) (leb-false _ _ (p .1 .1 .1 .1 .1 .0))
+      commit-undamaged i (session st i) (w .sessions-fit i) (p .1 .0) (ltb-false _ _ (p .1 .1 .1 .1 .0))
+      (leb-false _ _ (p .1 .1 .1 .1 .1 .0))
       (ltb-false _ _ (p .1 .1 .1 .1 .1 .1 .0))
   effect-undamaged (tidy i v) p =
       tidy-undamaged (startOf (session st i)) v (leb-false _ _ (p .1 .1 .0)) (leb-false _ _ (p .1 .1 .1 .1 .1 .0))

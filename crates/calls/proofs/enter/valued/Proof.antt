@@ -18,4 +18,5 @@ returns-3 : tie.Need-returns-3
 returns-3 c = search valued-passes
 
 pub valued-spec : {M : Type 1} → statement M
-valued-spec = tie.close (tie.spec (λ c κs. search needs) (λ c. search needs) (λ c. search needs) returns clock-of-requires returns-2 returns-3)
+valued-spec =
+    tie.close (tie.spec (λ c κs. search needs) (λ c. search needs) (λ c. search needs) returns clock-of-requires returns-2 returns-3)

@@ -23,7 +23,8 @@ loop-holds : tie.Need-loop-holds Inv-loop μ-loop
 loop-holds c = (omega arith, omega arith, search counted-none)
 
 loop-again : tie.Need-loop-again Inv-loop μ-loop
-loop-again c = ⊎-elim (λ w. (omega arith, omega arith, search counted-new)) (λ w. (omega arith, omega arith, search counted-row)) (c .if1 .came)
+loop-again c =
+    ⊎-elim (λ w. (omega arith, omega arith, search counted-new)) (λ w. (omega arith, omega arith, search counted-row)) (c .if1 .came)
 
 returns : tie.Need-returns Inv-loop μ-loop
 returns c = search counted-all

@@ -32,4 +32,5 @@ returns-2 : tie.Need-returns-2 Inv-loop μ-loop
 returns-2 c = search read-none
 
 pub read-after-spec : {M : Type 1} → statement M
-read-after-spec = tie.close (tie.spec Inv-loop μ-loop loop-holds row-has-requires returns (λ c. omega arith) (λ c. omega arith) loop-again returns-2)
+read-after-spec =
+    tie.close (tie.spec Inv-loop μ-loop loop-holds row-has-requires returns (λ c. omega arith) (λ c. omega arith) loop-again returns-2)
