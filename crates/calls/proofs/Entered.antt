@@ -38,10 +38,10 @@ use Rattle.damage.proofs.NumberLaws.{number-parts}
 use Rattle.damage.proofs.SoundLaws.{judged-sound-lent}
 use Rattle.lent.specs.Places.{seatAt}
 use Rattle.lent.specs.declared.seats.Seat.{Seat}
+use Rattle.lent.specs.Seats as lent
 use Rattle.calls.specs.declared.enter.Test as asked
 use Rattle.calls.specs.declared.enter.Test.the-variants.{Passed, No}
 use Rattle.calls.specs.Outcome.{refusalAt}
-use Rattle.lent.specs.Seats as lent
 use Rattle.calls.specs.Seats.{seatOf}
 use Rattle.calls.specs.Enter.{whyOf, enteredBy, placedBy, shut, inReach, strange, unknown, openedBy, valuedBy}
 use Rattle.calls.proofs.EnterLaws.{first-begins, first-goes-on, first-skips, Passes, passes}

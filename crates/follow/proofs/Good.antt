@@ -6,8 +6,8 @@ use mathlib.Core.List.{List}
 use mathlib.Core.Logic.{_⊎_, inl, inr}
 use mathlib.Core.Option.{Option, none, some}
 use Prim.Native.Nat.{ℕ, _≤_, _<_}
-use borrow.Author.Tests.{leb-false}
 use native.Mathlib.Omega.{arith}
+use borrow.Author.Tests.{leb-false}
 use lib.ListN.{length, set, length-set, length-replicate}
 use lib.Seq.{getD-set-same, getD-set-other, set-out}
 use lib.Dec.{leb}
@@ -32,8 +32,8 @@ use Rattle.tables.proofs.Means.{values-means, open-means, live-means}
 use Rattle.tables.proofs.Stores.{session-put}
 use Rattle.tables.proofs.Undamaged.{means-undamaged}
 use Rattle.calls.specs.Calls.{own, reseated}
-use Rattle.calls.proofs.Entered.{seat-means, seat-there}
 use Rattle.calls.specs.Outcome.{Outcome, refusalAt, unless}
+use Rattle.calls.proofs.Entered.{seat-means, seat-there}
 use Rattle.follow.specs.Good.{Wide, AllWide, Good}
 use Rattle.follow.specs.Heard.{heard}
 use Rattle.follow.specs.Follows.{Follows}

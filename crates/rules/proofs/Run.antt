@@ -13,12 +13,12 @@ use Rattle.rules.specs.State.{Log, Chain, Entry, Session, free, opened, 
 use Rattle.rules.specs.Lists.{inserts}
 use Rattle.rules.specs.Commit.{conflicts, commitChanges}
 use Rattle.rules.specs.Tidy.{moved, stale}
-use Rattle.rules.proofs.Invariant.{EntriesFit, Once}
 use Rattle.rules.specs.Calls.{Column, Call, create, begin, query, read, update, delete, insert, commit, tidy, abort}
 use Rattle.rules.specs.Refusals.{badColumn, tests, refusal, AllFail}
 use Rattle.rules.specs.Step.{created, seated, beginning, relisted, committing, tidying, effect, unless, step}
 use Rattle.rules.specs.Plain.{Wish, hold, grow, Event, committed, tidied, Visitor, away, sitting, Observer, visitor, movedBy, sits}
 use Rattle.rules.specs.Plain.{sitsDown, wishing, commitsNow, tidiesNow, started, accepts, watches}
+use Rattle.rules.proofs.Invariant.{EntriesFit, Once}
 use Rattle.rules.proofs.Small.{length-snoc, same-everywhere, pair-set}
 use Rattle.rules.proofs.PlainLaws.{columnAfter, column-old, column-now, Same, same-none, same-put, same-insert}
 use Rattle.rules.proofs.ListLaws.{Kept, put-kept, insert-kept}
