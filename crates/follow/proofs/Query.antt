@@ -4,7 +4,7 @@ use mathlib.Core.Path.{_≡_, sym, ap, _∙_, refl}
 use mathlib.Core.Bool.{Bool, false, cond}
 use mathlib.Core.Option.{none, some}
 use mathlib.Core.List.{List, [], _∷_}
-use mathlib.Core.Logic.{_⊎_, inl, inr}
+use mathlib.Core.Logic.{_⊎_, inl, inr, ⊎-elim}
 use Prim.Native.Nat.{ℕ, zero-le, _+_, _*_, _≤_, _<_}
 use native.Mathlib.Omega.{arith}
 use borrow.Author.Tests.{eq-eqb, ne-eqb, lt-ltb, le-leb, le-ltb, ltb-false}
@@ -97,11 +97,9 @@ module _ (t : Tables) (g : Good t) (s v : ℕ) (below : v < valuesIn (t .clock))
 
   same : (threshold : ℕ) → asked t scratch s v threshold .after ≡ t
   unfolding asked
-  same threshold = go (eq-cases (flipsSeen t s v) 0)
-    where
-      go : (flipsSeen t s v ≡ 0) ⊎ (flipsSeen t s v ≡ 0 → ⊥) → asked t scratch s v threshold .after ≡ t
-      go (inl z) = rw (eq-eqb (flipsSeen t s v) 0 z)
-      go (inr d) = rw (ne-eqb (flipsSeen t s v) 0 d)
+  same threshold =
+      ⊎-elim (λ (z : flipsSeen t s v ≡ 0). rw (eq-eqb (flipsSeen t s v) 0 z))
+      (λ (d : flipsSeen t s v ≡ 0 → ⊥). rw (ne-eqb (flipsSeen t s v) 0 d)) (eq-cases (flipsSeen t s v) 0)
 
 -- ---- the call
 

@@ -213,14 +213,10 @@ module _ (changes : List ℕ) (from to v : ℕ) where
 
   pub mask-all : (p : ℕ) (m : List ℕ) → from ≤ p → p - to ≤ from - to → to ≤ p → m ≡ vec (flippedIn changes from p v) 32
       → m ≡ vec (flippedIn changes from to v) 32
-  mask-all p m h k l e = go (lt-cases from to)
-    where
-      go : (from < to) ⊎ (to ≤ from) → m ≡ vec (flippedIn changes from to v) 32
-      go (inl o) = let z : p ≡ to = omega arith in e ∙ ap (λ (j : ℕ). vec (flippedIn changes from j v) 32) z
-      go (inr o) =
-          e
-          ∙ vec-ext (flippedIn changes from p v) (flippedIn changes from to v) 32
-          (λ r n. flipped-none changes v r from p (omega arith) ∙ sym (flipped-none changes v r from to o))
+  mask-all p m h k l e =
+      ⊎-elim (λ (o : from < to). let z : p ≡ to = omega arith in e ∙ ap (λ (j : ℕ). vec (flippedIn changes from j v) 32) z)
+      (λ (o : to ≤ from). e ∙ vec-ext (flippedIn changes from p v) (flippedIn changes from to v) 32
+      (λ r n. flipped-none changes v r from p (omega arith) ∙ sym (flipped-none changes v r from to o))) (lt-cases from to)
 
 -- the change that a mark is of
 pub mark-is : (m m′ changes : List ℕ) (p v row row′ set : ℕ) (on : Bool) → row ≡ changeRow changes p → set ≡ changeSet changes p

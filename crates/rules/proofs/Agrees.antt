@@ -130,10 +130,7 @@ turned true true true = refl
 turned true true false = refl
 turned true false true = refl
 turned true false false = refl
-turned false true true = refl
-turned false true false = refl
-turned false false true = refl
-turned false false false = refl
+turned false f b = xorb-twice f b
 
 module _ (log : Log) (ch : Chain) (v : ℕ) (col : Column) (h : List Event) (a : Agrees log ch v col h) where
   -- ---- what the agreement gives

@@ -4,7 +4,7 @@ use mathlib.Core.Path.{_≡_, refl, sym, ap, _∙_}
 use mathlib.Core.Bool.{Bool, true, false, _||_, cond, or-false, or-true, true≢false, false≢true, not, _&&_}
 use mathlib.Core.Option.{Option, none, some, Option·getD, Option·map, Option·none-ne-some, Option·some-injective}
 use mathlib.Core.List.{List, [], _∷_, _++_, map, List·Memᴰ, List·Memᴰ·head, List·Memᴰ·tail, List·Memᴰ·not-nil, List·Memᴰ·cases-cons}
-use mathlib.Core.Logic.{_⊎_, inl, inr, _↔_}
+use mathlib.Core.Logic.{_⊎_, inl, inr, _↔_, ⊎-elim}
 use Prim.Native.Nat.{ℕ, zero, suc, _+_, _-_, _≤_, _<_}
 use native.Mathlib.Omega.{arith}
 use borrow.Author.Tests.{eqb-true, eq-eqb, ne-eqb, ltb-false}
@@ -245,11 +245,8 @@ conflicts-means log s (alter q t ∷ es) =
     from p (inr b) ih = rw (ih (p .0, rw b at (p .1), p .2)) (or-true (named q))
 
 pub fits-row : (C n : ℕ) (es : List Entry) (r : ℕ) → EntriesFit C n es → lists es r ≡ true → r < n
-fits-row C n es r f l = go (lt-cases r n)
-  where
-    go : (r < n) ⊎ (n ≤ r) → r < n
-    go (inl o) = o
-    go (inr o) = absurd (clash l (lists-target es r ∙ rw (fits-high C n es r f o)))
+fits-row C n es r f l =
+    ⊎-elim (λ (o : r < n). o) (λ (o : n ≤ r). absurd (clash l (lists-target es r ∙ rw (fits-high C n es r f o)))) (lt-cases r n)
 
 -- ---- the whole index after a commit
 
@@ -289,12 +286,9 @@ module _ (C : ℕ) (col : Column) (rows : ℕ) (log : Log) (chains : List Chain)
   commit-keeps calm = rw (rows-same (newSet C log chains s s) (newSet C log chains (stampOf log) s) es same-set) (commit-present held)
     where
       unnamed : (r : ℕ) → lists es r ≡ true → names (changesOf (above log s)) r ≡ false
-      unnamed r l = go (bool-cases (names (changesOf (above log s)) r))
-        where
-          go : (names (changesOf (above log s)) r ≡ true) ⊎ (names (changesOf (above log s)) r ≡ false)
-              → names (changesOf (above log s)) r ≡ false
-          go (inl n) = absurd (clash (conflicts-means log s es .1 (r, l, n)) calm)
-          go (inr n) = n
+      unnamed r l =
+          ⊎-elim (λ (n : names (changesOf (above log s)) r ≡ true). absurd (clash (conflicts-means log s es .1 (r, l, n)) calm))
+          (λ (n : names (changesOf (above log s)) r ≡ false). n) (bool-cases (names (changesOf (above log s)) r))
 
       held : (r : ℕ) → lists es r ≡ true → cell (replay col h) r ≡ cell (columnAfter col h s) r
       held r l = still C col rows log h (c .logged) s r old (fits-row C (length (columnAfter col h s)) es r fits l) (unnamed r l)
@@ -417,11 +411,9 @@ module _ (C : ℕ) (col : Column) (rows : ℕ) (log : Log) (chains : List Chain)
   unmoved r = moves-none log ch v col h a s r old
 
   low : (r : ℕ) → moves log s v r ≡ true → r < maxRows
-  low r t = go (lt-cases r (length (columnAfter col h s)))
-    where
-      go : (r < length (columnAfter col h s)) ⊎ (length (columnAfter col h s) ≤ r) → r < maxRows
-      go (inl l) = omega (arith, columns-fit C col rows log h (c .logged) s)
-      go (inr l) = absurd (clash t (unmoved r l))
+  low r t =
+      ⊎-elim (λ (l : r < length (columnAfter col h s)). omega (arith, columns-fit C col rows log h (c .logged) s))
+      (λ (l : length (columnAfter col h s) ≤ r). absurd (clash t (unmoved r l))) (lt-cases r (length (columnAfter col h s)))
 
   -- v's rows are now as they were at s
   agree : (r : ℕ) → holds (cell (columnAfter col h s) r) v ≡ holds (cell (replay col h) r) v

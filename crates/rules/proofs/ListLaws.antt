@@ -4,7 +4,7 @@ use mathlib.Core.Path.{_≡_, refl, sym, _∙_}
 use mathlib.Core.Bool.{Bool, true, false, not, _&&_, _||_, cond, true≢false}
 use mathlib.Core.Option.{Option, none, some}
 use mathlib.Core.List.{List, [], _∷_, _++_}
-use mathlib.Core.Logic.{_⊎_, inl, inr}
+use mathlib.Core.Logic.{⊎-elim}
 use Prim.Native.Nat.{ℕ, suc, _≤_, _<_}
 use borrow.Author.Tests.{eqb-true, eqb-false, eq-eqb, ne-eqb, leb-false}
 use lib.Dec.{eqb}
@@ -35,11 +35,8 @@ cond-same true x y z = refl
 cond-same false x y z = refl
 
 cond-swap : {A : Type 0} (q p r : ℕ) → (q ≡ p → ⊥) → (x y z : A) → cond (eqb q r) x (cond (eqb p r) y z) ≡ cond (eqb p r) y (cond (eqb q r) x z)
-cond-swap q p r d x y z = go (eq-cases q r)
-  where
-    go : (q ≡ r) ⊎ (q ≡ r → ⊥) → cond (eqb q r) x (cond (eqb p r) y z) ≡ cond (eqb p r) y (cond (eqb q r) x z)
-    go (inl e) = rw (eq-eqb q r e, ne-eqb p r (λ f. d (e ∙ sym f)))
-    go (inr n) = rw (ne-eqb q r n)
+cond-swap q p r d x y z =
+    ⊎-elim (λ (e : q ≡ r). rw (eq-eqb q r e, ne-eqb p r (λ f. d (e ∙ sym f)))) (λ (n : q ≡ r → ⊥). rw (ne-eqb q r n)) (eq-cases q r)
 
 -- a row is listed exactly if it has a target
 pub lists-target : (es : List Entry) (r : ℕ) → lists es r ≡ isGiven (target es r)

@@ -4,7 +4,7 @@ use mathlib.Core.Path.{_≡_, refl, sym, _∙_}
 use mathlib.Core.Bool.{Bool, true, false, _||_, true≢false}
 use mathlib.Core.Option.{Option, none, some}
 use mathlib.Core.List.{List, [], _∷_, _++_}
-use mathlib.Core.Logic.{_⊎_, inl, inr}
+use mathlib.Core.Logic.{_⊎_, inl, inr, ⊎-elim}
 use Prim.Native.Nat.{ℕ, zero, suc, _≤_}
 use native.Mathlib.Omega.{arith}
 use native.Mathlib.Numerals.{add-one}
@@ -55,11 +55,8 @@ drop-snoc l x = rw (← (length-snoc l x)) (drop-length (l ++ (x ∷ [])))
 
 -- what holds at every k up to n, and at n + 1, holds at every k up to n + 1
 pub up-to-next : {n m : ℕ} (P : ℕ → Type 0) → ((k : ℕ) → k ≤ n → P k) → P (suc n) → m ≡ suc n → (k : ℕ) → k ≤ m → P k
-up-to-next {n} P old new q k l = go (eq-cases k (suc n))
-  where
-    go : (k ≡ suc n) ⊎ (k ≡ suc n → ⊥) → P k
-    go (inl e) = rw e new
-    go (inr d) = old k (omega arith)
+up-to-next {n} P old new q k l =
+    ⊎-elim (λ (e : k ≡ suc n). rw e new) (λ (d : k ≡ suc n → ⊥). old k (omega arith)) (eq-cases k (suc n))
 
 -- a place of a table of one thing, or past it
 pub same-everywhere : {A : Type 0} (n : ℕ) (d : A) (i : ℕ) → getD (replicate n d) i d ≡ d
