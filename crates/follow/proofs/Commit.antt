@@ -44,7 +44,7 @@ use Rattle.follow.specs.Follows.{Follows}
 use Rattle.follow.proofs.Good.{good-room, good-parts, follows, Open, open-seat, good-freed, value-low}
 use Rattle.follow.proofs.NewRecord.{commit-clock, newLog, NextRecord, last-fits, grown-means, tidy-clock, rows-new}
 use Rattle.follow.proofs.NewSlot.{no-slot, later-good, NextSlot, slots-same, new-stamp, new-words, new-slot, new-head, newVersion}
-use Rattle.follow.proofs.NewSlot.{chains-mean, NewSlots}
+use Rattle.follow.proofs.NewSlot.{chains-mean}
 
 -- ---- commit
 
