@@ -1,16 +1,16 @@
--- The shared refusals, a test at a time, as the code judges them.
--- Assumes nothing.
-use mathlib.Core.Path.{_≡_, refl, sym, ap, _∙_}
-use mathlib.Core.Bool.{Bool, true, false, not, cond, _&&_}
-use mathlib.Core.Option.{Option, none, some, Option·some-ne-none}
+-- Tables of tests: one that begins with another, and a test that never decides. The shared refusals, a test at a time, as the code
+-- judges them. Assumes nothing.
+use mathlib.Core.Path.{_≡_, refl, ap, sym, _∙_}
+use mathlib.Core.Bool.{Bool, true, false, cond, not, _&&_}
+use mathlib.Core.Option.{none, some, Option·none-ne-some, Option·some-ne-none, Option}
 use mathlib.Core.List.{List, [], _∷_, _++_}
 use Prim.Native.Nat.{ℕ, _≤_, _<_}
 use native.Mathlib.Omega.{arith}
 use borrow.Author.Tests.{not-true, not-false, le-leb, lt-leb, eq-eqb, ne-eqb}
 use lib.Dec.{leb}
 use lib.ListN.{length}
-use Rattle.rules.specs.Limits.{maxSessions}
 use Rattle.rules.specs.Refusals.{Test, firstOf, noSession}
+use Rattle.rules.specs.Limits.{maxSessions}
 use Rattle.tables.specs.declared.clock.Clock.{Clock}
 use Rattle.tables.specs.declared.refusal.Refusal.{Refusal}
 use Rattle.tables.specs.Cells.{stampIn}
@@ -20,10 +20,39 @@ use Rattle.damage.specs.Room.{roomFor, Roomy}
 use Rattle.damage.specs.Numbers.{numbersFit}
 use Rattle.damage.proofs.RoomLaws.{room-lengths}
 use Rattle.lent.specs.declared.seats.Seat.{Seat}
-use Rattle.calls.specs.declared.enter.Test as asked
 use Rattle.calls.specs.declared.enter.Test.the-variants.{Passed, No}
 use Rattle.calls.specs.Enter.{whyOf, enteredBy, placedBy, shut, inReach, strange, unknown, openedBy, valuedBy}
-use Rattle.calls.proofs.TestLaws.{first-begins, first-goes-on}
+use Rattle.calls.specs.declared.enter.Test as asked
+
+-- a number given by the beginning of a table is given by the table
+pub first-begins : (ts us : List Test) (k : ℕ) → firstOf ts ≡ some k → firstOf (ts ++ us) ≡ some k
+first-begins [] us k e = absurd (Option·none-ne-some k e)
+first-begins (t ∷ ts) us k e = go (t .0) e (first-begins ts us k)
+  where
+    go : (b : Bool) → cond b (some (t .1)) (firstOf ts) ≡ some k → (firstOf ts ≡ some k → firstOf (ts ++ us) ≡ some k)
+        → cond b (some (t .1)) (firstOf (ts ++ us)) ≡ some k
+    go true p ih = p
+    go false p ih = ih p
+
+-- where the beginning gives none, the rest decides
+pub first-goes-on : (ts us : List Test) → firstOf ts ≡ none → firstOf (ts ++ us) ≡ firstOf us
+first-goes-on [] us e = refl
+first-goes-on (t ∷ ts) us e = go (t .0) e (first-goes-on ts us)
+  where
+    go : (b : Bool) → cond b (some (t .1)) (firstOf ts) ≡ none → (firstOf ts ≡ none → firstOf (ts ++ us) ≡ firstOf us)
+        → cond b (some (t .1)) (firstOf (ts ++ us)) ≡ firstOf us
+    go true p ih = absurd (Option·some-ne-none (t .1) p)
+    go false p ih = ih p
+
+-- a third test that fails where the two before it do
+pub first-skips : (a b c : Test) (ts : List Test) → (a .0 ≡ false → b .0 ≡ false → c .0 ≡ false) → firstOf (a ∷ b ∷ c ∷ ts) ≡ firstOf (a ∷ b ∷ ts)
+first-skips a b c ts h = go (a .0) (b .0) (c .0) h
+  where
+    go : (x y z : Bool) → (x ≡ false → y ≡ false → z ≡ false)
+        → cond x (some (a .1)) (cond y (some (b .1)) (cond z (some (c .1)) (firstOf ts))) ≡ cond x (some (a .1)) (cond y (some (b .1)) (firstOf ts))
+    go true y z f = refl
+    go false true z f = refl
+    go false false z f = ap (λ (w : Bool). cond w (some (c .1)) (firstOf ts)) (f refl refl)
 
 -- ---- 1 and 2, then any tests
 
@@ -116,7 +145,9 @@ module _ (clock slots words heads log changes : List ℕ) (x : Seat) (n : ℕ) (
 
   -- the clock that a passed test leaves
   clock-there : (ts : List Test) → tests ts ≡ none → 6 ≤ length clock
-  clock-there ts e = room-lengths clock slots words heads log changes (x .places) (passes clock slots words heads log changes (x .places) (x .fit) ts e .room-found) .clock-room
+  clock-there ts e =
+      room-lengths clock slots words heads log changes (x .places) (passes clock slots words heads log changes (x .places) (x .fit) ts
+      e .room-found) .clock-room
 
   module _ (e : whyOf test ≡ placedBy clock slots words heads log changes (x .places) (x .fit) n) where
     pub opened-stays : (why : Refusal) → test ≡ No why → whyOf test ≡ openedBy clock slots words heads log changes x n

@@ -5,13 +5,11 @@ use mathlib.Core.Bool.{Bool, true, false, not, cond, _&&_, and-comm}
 use mathlib.Core.Option.{none, some, Option·some-ne-none}
 use mathlib.Core.List.{List, [], _∷_}
 use mathlib.Core.Logic.{inl, ⊎-elim}
-use Prim.Native.Nat.{ℕ, _^_, _≤_, _<_}
+use Prim.Native.Nat.{ℕ, _≤_, _<_}
 use native.Mathlib.Omega.{arith}
 use borrow.Author.Tests.{leb-true, leb-false, le-leb, eqb-true, not-false, lt-ltb, le-ltb}
-use lib.Dec.{T, leb, eqb, leb→le}
+use lib.Dec.{leb, eqb}
 use lib.ListN.{length, replicate, length-replicate, getD-replicate}
-use mir.Syntax.{Width}
-use mir.Val.{Fits, bits}
 use Rattle.bits.specs.Cases.{lt-cases}
 use Rattle.rules.specs.State.{session, isFree, startOf, rowsOf, listOf}
 use Rattle.rules.specs.Limits.{maxSessions}
@@ -26,11 +24,12 @@ use Rattle.tables.specs.Meaning.{meaning, entries, sessionOf}
 use Rattle.tables.specs.Refusals.{numberOf}
 use Rattle.tables.specs.declared.refusal.Refusal.{Refusal}
 use Rattle.tables.specs.Room.{roomy}
-use Rattle.tables.specs.Damage.{sound}
+use Rattle.tables.specs.Damage.{sound, sessionFits}
 use Rattle.tables.proofs.Tests.{both, and-both}
-use Rattle.tables.proofs.Facts.{room-facts, room-made, parts, whole, clock-limits}
+use Rattle.tables.proofs.Facts.{room-facts, room-made, parts, whole}
 use Rattle.tables.proofs.Sessions.{OpenFacts, freed-zero, session-made, sessions-made, open-at, open-rows-few}
-use Rattle.tables.proofs.Means.{values-means, session-means, session-past, isFree-means, free-means, startOf-means, rowsOf-means, listOf-means}
+use Rattle.tables.proofs.Means.{values-means, session-means, session-past, isFree-means, free-means, startOf-means, rowsOf-means}
+use Rattle.tables.proofs.Means.{listOf-means}
 use Rattle.damage.specs.Room.{roomFor}
 use Rattle.damage.specs.Numbers.{numbersFit}
 use Rattle.damage.specs.Judged.{sessionsJudged}
@@ -39,14 +38,13 @@ use Rattle.damage.proofs.NumberLaws.{number-parts}
 use Rattle.damage.proofs.SoundLaws.{judged-sound-lent}
 use Rattle.lent.specs.Places.{seatAt}
 use Rattle.lent.specs.declared.seats.Seat.{Seat}
+use Rattle.lent.specs.Seats as lent
 use Rattle.calls.specs.declared.enter.Test as asked
 use Rattle.calls.specs.declared.enter.Test.the-variants.{Passed, No}
 use Rattle.calls.specs.Outcome.{refusalAt}
-use Rattle.lent.specs.Seats as lent
 use Rattle.calls.specs.Seats.{seatOf}
 use Rattle.calls.specs.Enter.{whyOf, enteredBy, placedBy, shut, inReach, strange, unknown, openedBy, valuedBy}
-use Rattle.calls.proofs.TestLaws.{first-begins, first-goes-on, first-skips}
-use Rattle.calls.proofs.EnterLaws.{Passes, passes}
+use Rattle.calls.proofs.EnterLaws.{first-begins, first-goes-on, first-skips, Passes, passes}
 
 -- ---- the number tables alone
 
@@ -58,31 +56,15 @@ module _ (clock slots words heads log changes : List ℕ) where
   bare-room : (places : ℕ) → roomFor clock slots words heads log changes places ≡ true → roomy (bare clock slots words heads log changes) ≡ true
   bare-room places e =
       let r = room-lengths clock slots words heads log changes places e in
-      room-made (bare clock slots words heads log changes) (record {
-        clock-room = r .clock-room;
-        slots-room = r .slots-room;
-        words-room = r .words-room;
-        heads-room = r .heads-room;
-        log-room = r .log-room;
-        changes-room = r .changes-room;
-        sessions-room = omega (arith, length-replicate 16 freed);
-      })
+      room-made (bare clock slots words heads log changes) (omega (arith, r, length-replicate 16 freed))
 
   bare-sound : numbersFit clock slots words heads log changes ≡ true → sound (bare clock slots words heads log changes) ≡ true
   bare-sound e =
       let p = number-parts clock slots words heads log changes e in
-      whole (bare clock slots words heads log changes) (record {
-        clock-fits = p .clock-fits;
-        records-fit = p .records-fit;
-        changes-fit = p .changes-fit;
-        slots-fit = p .slots-fit;
-        heads-fit = p .heads-fit;
-        vectors-fit = p .vectors-fit;
-        sessions-fit =
-            sessions-made clock log (replicate 16 freed)
-            (λ i l. session-made (valuesIn clock) (firstIn clock) (stampIn clock) log (sessionAt (replicate 16 freed) i)
-            (inl (rw (getD-replicate 16 i freed freed l) freed-zero)));
-      })
+      let f : (i : ℕ) → i < 16 → sessionFits (valuesIn clock) (firstIn clock) (stampIn clock) log (sessionAt (replicate 16 freed) i) ≡ true =
+      λ i l. session-made _ _ _ _ _ (inl (rw (getD-replicate 16 i freed freed l) freed-zero)) in
+      let z = sessions-made clock log (replicate 16 freed) f in
+      whole (bare clock slots words heads log changes) (search)
 
   -- what a call that goes on knows: of the number tables and its session's number
   pub record Placed (n : ℕ) : Type 0 where
@@ -160,23 +142,7 @@ module _ (clock slots words heads log changes : List ℕ) where
         let p = passes clock slots words heads log changes (x .places) (x .fit) ts (sym e ∙ ap whyOf h) in
         let f = all-fail ts (p .tests-found) in
         let o = three (f .0) (f .1 .0) (f .1 .1 .0) (p .room-found) (p .numbers-found) in
-        record {
-          room = o .room;
-          good = o .good;
-          place-low = o .place-low;
-          live-one = o .live-one;
-          start-old = o .start-old;
-          rows-few = o .rows-few;
-          count-low = o .count-low;
-          value-low = leb-false _ _ (f .1 .1 .1 .0);
-        }
-
-    -- a value below C fits every number type
-    pub valued-fits : (v : ℕ) (w : Width) → whyOf test ≡ valuedBy clock slots words heads log changes x n v → T (leb 32 (2 ^ bits w)) → Fits w v
-    valued-fits v w e f =
-        let p = valued-passed v e in
-        let few = clock-limits clock (parts (bare clock slots words heads log changes) (p .good) .clock-fits) .few-values in
-        record { fits = omega (arith, p .value-low, few, leb→le 32 (2 ^ bits w) f) }
+        let l : v < valuesIn clock = leb-false _ _ (f .1 .1 .1 .0) in search
 
 -- ---- all tables that show the seat
 

@@ -1,8 +1,6 @@
 -- The laws of the definitions, of the shared refusals and of a session that is let in.
 -- Assumes nothing.
-pub mod AnswerLaws
 pub mod NarrowLaws
-pub mod TestLaws
 pub mod EnterLaws
 pub mod Entered
 pub mod Serving

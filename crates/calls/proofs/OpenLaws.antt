@@ -82,7 +82,8 @@ module _ (x : Session) (row : ℕ) (low : row < 65535) where
   one-entry : (i : ℕ) → target (entryAt x i ∷ []) row ≡ Option·map targetAt (cond (hasRow x row i) (some i) none)
   one-entry i = go (eq-cases (getD (x .at) i 0) 65535)
     where
-      go : (getD (x .at) i 0 ≡ 65535) ⊎ (getD (x .at) i 0 ≡ 65535 → ⊥) → target (entryAt x i ∷ []) row ≡ Option·map targetAt (cond (hasRow x row i) (some i) none)
+      go : (getD (x .at) i 0 ≡ 65535) ⊎ (getD (x .at) i 0 ≡ 65535 → ⊥)
+          → target (entryAt x i ∷ []) row ≡ Option·map targetAt (cond (hasRow x row i) (some i) none)
       go (inl e) =
           ap (λ (y : Entry). target (y ∷ []) row) (entry-new x i e)
           ∙ ap (λ (b : Bool). Option·map targetAt (cond b (some i) none)) (sym (ne-eqb (getD (x .at) i 0) row (λ z. omega arith)))
@@ -101,7 +102,8 @@ module _ (x : Session) (row : ℕ) (low : row < 65535) where
     unfolding spotOf
     listed-target = go (smallestBelow (hasRow x row) (x .count)) refl l
       where
-        go : (o : Option ℕ) → smallestBelow (hasRow x row) (x .count) ≡ o → orPlace o (x .count) < x .count → target (entries x) row ≡ some (targetAt (orPlace o (x .count)))
+        go : (o : Option ℕ) → smallestBelow (hasRow x row) (x .count) ≡ o → orPlace o (x .count) < x .count
+            → target (entries x) row ≡ some (targetAt (orPlace o (x .count)))
         go none e h = absurd (omega arith)
         go (some i) e h = first-target (x .count) ∙ ap (Option·map targetAt) e
 

@@ -31,7 +31,7 @@ use Rattle.calls.specs.declared.enter.Test as asked
 use Rattle.calls.specs.declared.enter.Test.the-variants as asks
 use Rattle.calls.specs.Said.{said, numbers}
 use Rattle.calls.specs.Outcome.{Outcome, outcome, refusalAt, unless}
-use Rattle.calls.specs.Calls.{reseated, relisted}
+use Rattle.calls.specs.Calls.{reseated}
 use Rattle.calls.specs.Seats.{opens, opensNone, relists, relistsNone, frees, freesNone, opening, relisting, freeing, beside, Serves}
 use Rattle.calls.specs.Enter.{whyOf, placedBy, openedBy, valuedBy}
 use Rattle.calls.proofs.Entered.{placed-refuses, opened-refuses, valued-refuses}

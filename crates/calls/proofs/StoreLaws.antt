@@ -14,7 +14,8 @@ use Rattle.tables.specs.Sessions.{freed}
 use Rattle.tables.specs.Stores.{putSlot, putHead, putRecord, putChange}
 use Rattle.tables.specs.Meaning.{changeAt, entries, meaning}
 use Rattle.tables.proofs.Stores.{length-change, kept-change}
-use Rattle.calls.specs.Stores.{Store, clockCell, slotCell, wordCell, headCell, changeCell, seat, store, stores, changeStores, recordStores, wordStores, putChanges}
+use Rattle.calls.specs.Stores.{Store, clockCell, slotCell, wordCell, headCell, changeCell, seat, store, stores, changeStores}
+use Rattle.calls.specs.Stores.{recordStores, wordStores, putChanges}
 use Rattle.calls.specs.Calls.{own, commitRows, commitStores}
 
 -- one group after another
@@ -61,7 +62,8 @@ log-stores t u before rest e p cs k kind rows end =
 -- all that a commit stores, table by table
 pub commit-stores : (t : Tables) (n : ℕ)
     → stores t (commitStores t n)
-    ≡ tables (set (set (set (t .clock) 2 (stampIn (t .clock) + 1)) 3 (commitRows t n)) 5 (changesIn (t .clock) + own t n .count)) (t .slots) (t .words) (t .heads)
+    ≡ tables (set (set (set (t .clock) 2 (stampIn (t .clock) + 1)) 3 (commitRows t n)) 5 (changesIn (t .clock) + own t n .count))
+    (t .slots) (t .words) (t .heads)
     (putRecord (t .log) (stampIn (t .clock)) 1 (commitRows t n) (changesIn (t .clock) + own t n .count))
     (putChanges (t .changes) (changesIn (t .clock)) (commitChanges (meaning t) (own t n .start .0) (entries (own t n)))) (set (t .sessions) n freed)
 commit-stores t n =

@@ -95,7 +95,8 @@ commitStores t n =
 
 unfoldable pub commitOf : Tables → ℕ → Outcome
 commitOf t n =
-    unless (refusalAt t (commit n)) t [] (outcome (stores t (commitStores t n)) [] (numbers ((stampIn (t .clock) + 1) ∷ commitRows t n ∷ [])))
+    unless (refusalAt t (commit n)) t []
+    (outcome (stores t (commitStores t n)) [] (numbers ((stampIn (t .clock) + 1) ∷ commitRows t n ∷ [])))
 
 -- Tidy: "a new slot for v holds the vector queried at s, linked to the old head, with stamp now plus 1; the head moves; a tidy
 -- record of that stamp lists the moved rows in ascending order with their flip sets at s less v"
@@ -138,4 +139,5 @@ abbrev pub columnOf : List ℕ → Column
 columnOf col = map valueOf col
 
 unfoldable pub createOf : Tables → ℕ → List ℕ → Outcome
-createOf t c col = unless (refusalOfCreate t (create c (columnOf col))) t [] (outcome (createdTables t c col) [] (numbers (length col ∷ [])))
+createOf t c col =
+    unless (refusalOfCreate t (create c (columnOf col))) t [] (outcome (createdTables t c col) [] (numbers (length col ∷ [])))

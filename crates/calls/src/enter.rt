@@ -25,7 +25,9 @@ pub fn placed(
     fit: bool,
     n: u64,
 ) -> Test
-    ensures { λ r. ⌜ whyOf r ≡ placedBy (now (clock .entry)) (now (slots .entry)) (now (words .entry)) (now (heads .entry)) (now (log .entry)) (now (changes .entry)) places fit n ⌝ }
+    ensures { λ r. ⌜ whyOf r ≡ placedBy
+        (now (clock .entry)) (now (slots .entry)) (now (words .entry)) (now (heads .entry)) (now (log .entry)) (now (changes .entry))
+        places fit n ⌝ }
 {
     if !damage::room(clock, slots, words, heads, log, changes, places) {
         return Test::No(Refusal::NoRoom);
@@ -61,7 +63,9 @@ pub fn opened(
     seat: Seat,
     n: u64,
 ) -> Test
-    ensures { λ r. ⌜ whyOf r ≡ openedBy (now (clock .entry)) (now (slots .entry)) (now (words .entry)) (now (heads .entry)) (now (log .entry)) (now (changes .entry)) seat n ⌝ }
+    ensures { λ r. ⌜ whyOf r ≡ openedBy
+        (now (clock .entry)) (now (slots .entry)) (now (words .entry)) (now (heads .entry)) (now (log .entry)) (now (changes .entry))
+        seat n ⌝ }
 {
     let live = seat.session.live;
     let start = seat.session.start;
@@ -103,7 +107,9 @@ pub fn valued(
     n: u64,
     v: Value,
 ) -> Test
-    ensures { λ r. ⌜ whyOf r ≡ valuedBy (now (clock .entry)) (now (slots .entry)) (now (words .entry)) (now (heads .entry)) (now (log .entry)) (now (changes .entry)) seat n (v .0) ⌝ }
+    ensures { λ r. ⌜ whyOf r ≡ valuedBy
+        (now (clock .entry)) (now (slots .entry)) (now (words .entry)) (now (heads .entry)) (now (log .entry)) (now (changes .entry))
+        seat n (v .0) ⌝ }
 {
     let test = opened(clock, slots, words, heads, log, changes, seat, n);
     let Test::Passed = test else {

@@ -7,15 +7,10 @@ use Rattle.tables.specs.Meaning.{meaning}
 use Rattle.follow.specs.Good.{Good}
 use Rattle.follow.specs.Follows.{Follows}
 use Rattle.follow.proofs.Create.{create-follows}
-use Rattle.follow.proofs.Begin.{begin-follows}
-use Rattle.follow.proofs.Query.{query-follows}
-use Rattle.follow.proofs.Read.{read-follows}
-use Rattle.follow.proofs.Update.{update-follows}
-use Rattle.follow.proofs.Delete.{delete-follows}
-use Rattle.follow.proofs.Insert.{insert-follows}
-use Rattle.follow.proofs.Commit.{commit-follows}
-use Rattle.follow.proofs.Tidy.{tidy-follows}
-use Rattle.follow.proofs.Abort.{abort-follows}
+use Rattle.follow.proofs.Begin.{begin-follows, abort-follows}
+use Rattle.follow.proofs.Query.{query-follows, read-follows}
+use Rattle.follow.proofs.Update.{update-follows, delete-follows, insert-follows}
+use Rattle.follow.proofs.Commit.{commit-follows, tidy-follows}
 use Rattle.demands.specs.Asks.{Ask, create, begin, query, read, update, delete, insert, commit, tidy, abort, callOf, comesTo, told}
 
 pub steps : (t : Tables) → Good t → (a : Ask) → Follows t (callOf a) (comesTo t a)

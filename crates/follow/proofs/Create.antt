@@ -1,32 +1,42 @@
--- Create follows the rules, from any tables with room, damaged or not.
--- Assumes nothing.
-use mathlib.Core.Path.{_≡_, refl, sym, ap, ap₂, _∙_}
-use mathlib.Core.Bool.{Bool, true, false, cond, _&&_, _||_, true≢false}
+-- Create follows the rules, from any tables with room, damaged or not: what the cells of tables just made of a column are, that
+-- they mean the rules' first state, and that they are good. Assumes nothing.
+use mathlib.Core.Path.{_≡_, refl, ap, ap₂, _∙_, fun-ext, sym}
+use mathlib.Core.Bool.{Bool, true, false, cond, _&&_, true≢false}
 use mathlib.Core.Option.{Option, none, some}
-use mathlib.Core.List.{List, [], _∷_, map}
-use mathlib.Core.Logic.{_⊎_, ⊎-elim}
-use Prim.Native.Nat.{ℕ, _+_, _*_, _/_, _%_, _≤_, _<_}
+use mathlib.Core.List.{[], _∷_, List, map}
+use mathlib.Core.Logic.{inl, _⊎_, ⊎-elim}
+use Prim.Native.Nat.{ℕ, _+_, _≤_, _<_, _*_, _/_, _%_}
+use native.Mathlib.Numerals.{add-one}
 use native.Mathlib.Omega.{arith}
-use borrow.Author.Tests.{ne-eqb, eqb-false, lt-ltb, le-ltb, ltb-false}
+use borrow.Author.Tests.{ne-eqb, lt-ltb, le-ltb}
+use lib.ListN.{length, replicate, List·getD-eq-default, getD, take, drop, length-map, length-replicate, length-drop, List·getD-append}
+use lib.ListN.{List·getD-map}
 use lib.Dec.{eqb, ltb}
-use lib.ListN.{length, getD, take, drop, replicate, length-map, length-replicate, length-drop, List·getD-append, List·getD-map}
 use lib.Seq.{take-append-le, drop-append-le}
+use Rattle.bits.specs.Tab.{tab, tab-ext, over, length-over, length-tab, getD-tab}
+use Rattle.bits.specs.Tail.{tailClear, tail-of-bits}
+use Rattle.bits.specs.Words.{bitAt, bitAt-above}
 use Rattle.bits.specs.Cases.{eq-cases, lt-cases}
-use Rattle.bits.specs.Tab.{tab, over, length-over, length-tab, getD-tab}
 use Rattle.bits.specs.Part.{part}
 use Rattle.bits.specs.Vec.{vec, length-vec, bitAt-vec}
 use Rattle.bits.specs.Vectors.{vectorAt, vectorAt-vec}
-use Rattle.bits.specs.Words.{bitAt, bitAt-above}
 use Rattle.bits.specs.Column.{holdsAt, columnBit, valueOf, value-none, value-some}
-use Rattle.rules.specs.Limits.{maxValues, maxRows}
-use Rattle.rules.specs.Calls.{cell, holds, create}
-use Rattle.rules.specs.Refusals.{someOutside, badColumn, tests}
-use Rattle.rules.specs.Step.{created, effect, step}
-use Rattle.rules.proofs.Small.{or-parts}
-use Rattle.tables.specs.Cells.{Tables, slotWords}
-use Rattle.tables.specs.Meaning.{meaning}
+use Rattle.rules.specs.Limits.{maxValues, maxRows, maxSlots, maxSessions}
+use Rattle.rules.specs.State.{Version, free}
+use Rattle.rules.specs.Calls.{Column, cell, holds, create}
+use Rattle.rules.specs.Step.{firstChain, created, effect, step}
+use Rattle.rules.specs.Refusals.{badColumn, tests}
+use Rattle.rules.proofs.Agrees.{good-column}
+use Rattle.tables.specs.Cells.{Tables, valuesIn, firstIn, stampIn, rowsIn, slotsIn, changesIn, slotValue, slotStamp, slotLink, slotWords}
+use Rattle.tables.specs.Cells.{headOf, rowsAt}
+use Rattle.tables.specs.Sessions.{freed, sessionAt}
+use Rattle.tables.specs.Meaning.{versionAt, chainFrom, chainAt, sessionOf, meaning}
 use Rattle.tables.specs.Room.{roomy}
-use Rattle.tables.proofs.Facts.{Room, room-facts}
+use Rattle.tables.proofs.Facts.{Room, room-made, Parts, whole, clock-made, records-made, changes-made, room-facts}
+use Rattle.tables.proofs.Slots.{slots-made, heads-made, vectors-made}
+use Rattle.tables.proofs.Sessions.{sessions-made, session-made, freed-zero}
+use Rattle.tables.proofs.Chains.{chain-end}
+use Rattle.tables.proofs.Stores.{freed-means}
 use Rattle.lent.specs.Places.{length-freed-all, freed-all-at}
 use Rattle.calls.specs.Said.{numbers}
 use Rattle.calls.specs.Outcome.{Outcome, outcome, refusalOfCreate, unless}
@@ -34,7 +44,93 @@ use Rattle.calls.specs.Calls.{below, createdTables, columnOf, createOf}
 use Rattle.follow.specs.Good.{Good}
 use Rattle.follow.specs.Follows.{Follows}
 use Rattle.follow.specs.Heard.{heard}
-use Rattle.follow.proofs.Fresh.{Fresh, past-absent, fresh-means, fresh-good}
+use Rattle.follow.proofs.Good.{freed-wide}
+
+-- "slots 0 to C-1 with stamp 0, one per value, no links; stamp 0; all sessions free"
+pub record Fresh (t : Tables) (C : ℕ) (col : Column) : Type 0 where
+  pub values-are : valuesIn (t .clock) ≡ C
+  pub first-are : firstIn (t .clock) ≡ length col
+  pub stamp-is : stampIn (t .clock) ≡ 0
+  pub rows-are : rowsIn (t .clock) ≡ length col
+  pub slots-are : slotsIn (t .clock) ≡ C
+  pub changes-are : changesIn (t .clock) ≡ 0
+  pub value-is : (v : ℕ) → v < C → slotValue (t .slots) v ≡ v
+  pub stamp-zero : (v : ℕ) → v < C → slotStamp (t .slots) v ≡ 0
+  pub link-zero : (v : ℕ) → v < C → slotLink (t .slots) v ≡ 0
+  pub head-is : (v : ℕ) → v < C → headOf (t .heads) v ≡ v
+  pub vector-is : (v : ℕ) → v < C → (r : ℕ) → bitAt (slotWords (t .words) v) r ≡ holds (cell col r) v
+  pub sessions-free : (i : ℕ) → i < 16 → sessionAt (t .sessions) i ≡ freed
+
+-- a version under its parts
+abbrev version : ℕ → (ℕ → Bool) → Version
+version s rows = record { stamp = s; vector = rows }
+
+all-free : tab (λ i. free) 16 ≡ replicate maxSessions free
+unfolding tab maxSessions
+all-free = refl
+
+-- a row past the column is absent
+pub past-absent : (col : Column) (v r : ℕ) → length col ≤ r → holds (cell col r) v ≡ false
+past-absent col v r h = ap (λ (o : Option ℕ). holds o v) (List·getD-eq-default col none h)
+
+slots-enough : maxValues ≤ maxSlots
+unfolding maxValues maxSlots
+slots-enough = omega arith
+
+module _ (t : Tables) (C : ℕ) (col : Column) (f : Fresh t C col) where
+  -- the versions of a value: one
+  chain-fresh : (v : ℕ) → v < C → chainAt (t .slots) (t .words) (t .heads) v ≡ firstChain col v
+  unfolding chainAt versionAt
+  chain-fresh v l =
+      ap (λ (h : ℕ). chainFrom (t .slots) (t .words) (h + 1) h) (f .head-is v l)
+      ∙ ap (λ (n : ℕ). chainFrom (t .slots) (t .words) n v) (add-one v)
+      ∙ chain-end (t .slots) (t .words) v v (f .link-zero v l)
+      ∙ ap₂ (λ (s : ℕ) (b : ℕ → Bool). version s b ∷ []) (f .stamp-zero v l) (fun-ext (f .vector-is v l))
+
+  sessions-fresh : tab (λ i. sessionOf (sessionAt (t .sessions) i)) 16 ≡ replicate maxSessions free
+  sessions-fresh =
+      tab-ext (λ i. sessionOf (sessionAt (t .sessions) i)) (λ i. free) 16 (λ i l. ap sessionOf (f .sessions-free i l) ∙ freed-means) ∙ all-free
+
+  pub fresh-means : meaning t ≡ created C col
+  unfolding meaning created tab
+  fresh-means =
+      rw (f .values-are, f .first-are, f .rows-are, f .stamp-is, f .slots-are, tab-ext (chainAt (t .slots) (t .words) (t .heads)) (firstChain col) C chain-fresh, sessions-fresh)
+
+  fresh-parts : 1 ≤ C → C ≤ maxValues → length col ≤ maxRows → Parts t
+  fresh-parts low high rows =
+      let c = t .clock in
+      record {
+        clock-fits = clock-made c (omega (arith, f, slots-enough));
+        records-fit =
+            records-made c (t .log) (λ k l. absurd (omega (arith, f .stamp-is))) (rw (f .stamp-is, f .changes-are))
+            (rw (f .stamp-is, f .first-are, f .rows-are));
+        changes-fit = changes-made c (t .log) (t .changes) (λ k p l. absurd (omega (arith, f .stamp-is)));
+        slots-fit =
+            slots-made c (t .slots)
+            (λ i h l. let k : i < C = omega (arith, f .slots-are) in
+            record { own-value = f .value-is i k; no-stamp = f .stamp-zero i k; no-link = f .link-zero i k })
+            (λ i h l. absurd (omega (arith, f .values-are, f .slots-are)));
+        heads-fit =
+            heads-made c (t .slots) (t .heads)
+            (λ v l. let k : v < C = omega (arith, f .values-are) in
+            record { head-low = omega (arith, f .head-is v k, f .slots-are); head-value = ap (slotValue (t .slots)) (f .head-is v k) ∙ f .value-is v k });
+        vectors-fit = vectors-made c (t .log) (t .slots) (t .words) (λ i l. clear i (omega (arith, f .slots-are)));
+        sessions-fit =
+            sessions-made c (t .log) (t .sessions)
+            (λ i l. rw (f .sessions-free i l) (session-made (valuesIn c) (firstIn c) (stampIn c) (t .log) freed (inl freed-zero)));
+      }
+    where
+      clear : (i : ℕ) → i < C → tailClear (slotWords (t .words) i) (rowsAt (firstIn (t .clock)) (t .log) (slotStamp (t .slots) i)) ≡ true
+      clear i l =
+          rw (f .stamp-zero i l)
+          (tail-of-bits (slotWords (t .words) i) (firstIn (t .clock)) (λ r h. f .vector-is i l r ∙ past-absent col i r (omega (arith, f .first-are))))
+
+  pub fresh-good : Room t → 1 ≤ C → C ≤ maxValues → length col ≤ maxRows → Good t
+  fresh-good room low high rows = record {
+    room = room-made t room;
+    whole = whole t (fresh-parts low high rows);
+    wide = λ i l. rw (f .sessions-free i l) freed-wide;
+  }
 
 -- ---- the cells that create leaves
 
@@ -123,16 +219,11 @@ module _ (t : Tables) (room : Room t) (c : ℕ) (col : List ℕ) where
 
   -- 3 fails: the tables are made of the column
   made : badColumn c (columnOf col) ≡ false → (meaning after ≡ created c (columnOf col)) × Good after
-  unfolding badColumn maxValues maxRows
+  unfolding maxValues maxRows
   made e =
-      let p = or-parts (eqb c 0 || ltb 32 c || ltb 2048 (length (columnOf col))) (someOutside c (columnOf col)) e in
-      let q = or-parts (eqb c 0 || ltb 32 c) (ltb 2048 (length (columnOf col))) (p .0) in
-      let s = or-parts (eqb c 0) (ltb 32 c) (q .0) in
-      let low : c ≡ 0 → ⊥ = eqb-false c 0 (s .0) in
-      let high : c ≤ 32 = ltb-false 32 c (s .1) in
-      let few : length (columnOf col) ≤ 2048 = ltb-false 2048 (length (columnOf col)) (q .1) in
-      let f = created-fresh high (omega (arith, length-map col valueOf)) in
-      (fresh-means after c (columnOf col) f, fresh-good after c (columnOf col) f created-room (omega arith) high few)
+      let g = good-column c (columnOf col) e in
+      let f = created-fresh (g .values-fit) (omega (arith, g .column-fits, length-map col valueOf)) in
+      (fresh-means after c (columnOf col) f, fresh-good after c (columnOf col) f created-room (g .some-value) (g .values-fit) (g .column-fits))
 
 -- ---- the call
 

@@ -1,20 +1,42 @@
--- What good tables have, and what keeps them good when one session is stored.
--- Assumes nothing.
-use mathlib.Core.Path.{_≡_}
-use mathlib.Core.Bool.{true}
+-- What good tables have, and what keeps them good when one session is stored; the session that a call is for; and the one lemma
+-- that settles the refusals of every call. Assumes nothing.
+use mathlib.Core.Path.{_≡_, _∙_, refl}
+use mathlib.Core.Bool.{true, false}
 use mathlib.Core.List.{List}
 use mathlib.Core.Logic.{_⊎_, inl, inr}
+use mathlib.Core.Option.{Option, none, some}
 use Prim.Native.Nat.{ℕ, _≤_, _<_}
+use native.Mathlib.Omega.{arith}
+use borrow.Author.Tests.{leb-false}
 use lib.ListN.{length, set, length-set, length-replicate}
 use lib.Seq.{getD-set-same, getD-set-other, set-out}
+use lib.Dec.{leb}
 use Rattle.bits.specs.Cases.{eq-cases, lt-cases}
+use Rattle.rules.specs.Limits.{maxSessions}
+use Rattle.rules.specs.State.{opened, session, isFree, State}
+use Rattle.rules.specs.Step.{seated, effect, step}
+use Rattle.rules.specs.Calls.{Call, Answer}
+use Rattle.rules.specs.Refusals.{tests, refusal, AllFail}
+use Rattle.rules.proofs.Invariant.{Undamaged}
+use Rattle.rules.proofs.Tests.{all-fail}
+use Rattle.rules.proofs.Numbers.{accepted-takes-effect}
+use Rattle.rules.proofs.Undamaged.{step-undamaged}
 use Rattle.tables.specs.declared.session.Session.{Session}
 use Rattle.tables.specs.Cells.{Tables, tables, valuesIn, firstIn, stampIn}
 use Rattle.tables.specs.Sessions.{freed, sessionAt}
 use Rattle.tables.specs.Damage.{sessionFits, sessionsFit}
+use Rattle.tables.specs.Meaning.{entries, sessionOf, meaning}
 use Rattle.tables.proofs.Facts.{Room, room-facts, room-made, Parts, parts, whole}
-use Rattle.tables.proofs.Sessions.{Typed, ZeroFacts, OpenFacts, each-session, sessions-made, session-made, freed-zero}
+use Rattle.tables.proofs.Sessions.{ZeroFacts, OpenFacts, each-session, sessions-made, session-made, freed-zero, open-at}
+use Rattle.tables.proofs.Means.{values-means, open-means, live-means}
+use Rattle.tables.proofs.Stores.{session-put}
+use Rattle.tables.proofs.Undamaged.{means-undamaged}
+use Rattle.calls.specs.Calls.{own, reseated}
+use Rattle.calls.specs.Outcome.{Outcome, refusalAt, unless}
+use Rattle.calls.proofs.Entered.{seat-means, seat-there}
 use Rattle.follow.specs.Good.{Wide, AllWide, Good}
+use Rattle.follow.specs.Heard.{heard}
+use Rattle.follow.specs.Follows.{Follows}
 
 -- the facts that come with them
 module _ (t : Tables) (g : Good t) where
@@ -23,10 +45,6 @@ module _ (t : Tables) (g : Good t) where
 
   pub good-parts : Parts t
   good-parts = parts t (g .whole)
-
--- what the types give is enough
-pub typed-wide : (t : Tables) → Typed t → AllWide (t .sessions)
-typed-wide t y i l = record { at-wide = y .at-cells i; to-wide = y .to-cells i }
 
 -- ---- one session stored
 
@@ -63,31 +81,10 @@ good-seated t i x g w f =
     let after : Tables = tables (t .clock) (t .slots) (t .words) (t .heads) (t .log) (t .changes) (set (t .sessions) i x) in
     let r = good-room t g in
     let p = good-parts t g in
+    let z = sessions-set (t .clock) (t .log) (t .sessions) i x (p .sessions-fit) (session-made _ _ _ _ x f) in
     record {
-      room =
-          room-made after
-          record {
-            clock-room = r .clock-room;
-            slots-room = r .slots-room;
-            words-room = r .words-room;
-            heads-room = r .heads-room;
-            log-room = r .log-room;
-            changes-room = r .changes-room;
-            sessions-room = rw (length-set (t .sessions) i x) (r .sessions-room);
-          };
-      whole =
-          whole after
-          record {
-            clock-fits = p .clock-fits;
-            records-fit = p .records-fit;
-            changes-fit = p .changes-fit;
-            slots-fit = p .slots-fit;
-            heads-fit = p .heads-fit;
-            vectors-fit = p .vectors-fit;
-            sessions-fit =
-                sessions-set (t .clock) (t .log) (t .sessions) i x (p .sessions-fit)
-                (session-made (valuesIn (t .clock)) (firstIn (t .clock)) (stampIn (t .clock)) (t .log) x f);
-          };
+      room = room-made after (omega (arith, r, length-set (t .sessions) i x));
+      whole = whole after (search);
       wide = all-wide-set (t .sessions) i x (g .wide) w;
     }
 
@@ -95,3 +92,74 @@ good-seated t i x g w f =
 pub good-freed : (t : Tables) (i : ℕ) → Good t
     → Good (tables (t .clock) (t .slots) (t .words) (t .heads) (t .log) (t .changes) (set (t .sessions) i freed))
 good-freed t i g = good-seated t i freed g freed-wide (inl freed-zero)
+
+-- 4 fails: the number is one of the sixteen places
+pub place-low : (n : ℕ) → leb maxSessions n ≡ false → n < 16
+unfolding maxSessions
+place-low n e = leb-false 16 n e
+
+-- 6 fails: the value is below C
+pub value-low : (t : Tables) (v : ℕ) → leb (meaning t .values) v ≡ false → v < valuesIn (t .clock)
+value-low t v e = leb-false (valuesIn (t .clock)) v (rw (values-means t) at e)
+
+-- another session at the place
+pub seated-means : (t : Tables) (n : ℕ) → n < 16 → Good t → (x : Session) → meaning (reseated t n x) ≡ seated (meaning t) n (sessionOf x)
+seated-means t n l g x = session-put t n x l (good-room t g .sessions-room)
+
+-- 5 fails: the session is open
+pub record Open (t : Tables) (n : ℕ) : Type 0 where
+  pub place : n < 16
+  pub means : session (meaning t) n ≡ opened (own t n .start .0) (own t n .rows .0) (entries (own t n))
+  pub facts : OpenFacts (valuesIn (t .clock)) (firstIn (t .clock)) (stampIn (t .clock)) (t .log) (own t n)
+  pub wide : Wide (own t n)
+
+pub open-seat : (t : Tables) (n : ℕ) → Good t → leb maxSessions n ≡ false → isFree (session (meaning t) n) ≡ false → Open t n
+open-seat t n g e f =
+    let l = place-low n e in
+    let v : own t n .live ≡ 1 = live-means (own t n) (rw (seat-means t n) at f) in
+    record {
+      place = l;
+      means = seat-means t n ∙ open-means (own t n) v;
+      facts = rw (seat-there t n l) (open-at _ _ _ (good-parts t g .sessions-fit) n l (rw (seat-there t n l) at v));
+      wide = rw (seat-there t n l) (g .wide n l);
+    }
+
+-- what is known of an accepted call: each of its tests fails, and the rules' next state is undamaged
+pub record Accepted (t : Tables) (c : Call) : Type 0 where
+  pub fail : AllFail (tests (meaning t) c)
+  pub undamaged : Undamaged (effect (meaning t) c .0)
+
+-- what is left to show of it
+pub record Meets (t : Tables) (c : Call) (o : Outcome) : Type 0 where
+  pub same-state : meaning (o .after) ≡ effect (meaning t) c .0
+  pub same-answer : heard o ≡ effect (meaning t) c .1
+  pub stays-good : Good (o .after)
+
+-- the same by what the call comes to, and what the rules' effect comes to
+pub meets-by : (t : Tables) (c : Call) (o o′ : Outcome) (st : State) (a : Answer) → o ≡ o′ → effect (meaning t) c ≡ (st, a)
+    → meaning (o′ .after) ≡ st → heard o′ ≡ a → Good (o′ .after) → Meets t c o
+meets-by t c o o′ st a p q m h g = record { same-state = rw (p, q) m; same-answer = rw (p, q) h; stays-good = rw p g }
+
+module _ (t : Tables) (g : Good t) (c : Call) where
+  -- neither 1 nor 2 is given: the number is the rules' own
+  pub refusal-is : refusalAt t c ≡ refusal (meaning t) c
+  unfolding refusalAt
+  refusal-is = rw (g .room, g .whole)
+
+  -- where no number is given
+  pub accepted : refusal (meaning t) c ≡ none → Accepted t c
+  accepted e = record {
+    fail = all-fail (tests (meaning t) c) e;
+    undamaged = rw (← (accepted-takes-effect (meaning t) c e)) (step-undamaged (meaning t) (means-undamaged t (g .whole)) c);
+  }
+
+  -- a refusal leaves the tables and answers its number on both sides: only the accepted call is left
+  pub follows : (bs : List (List ℕ)) (o : Outcome) → (Accepted t c → Meets t c o) → Follows t c (unless (refusalAt t c) t bs o)
+  unfolding unless step
+  follows bs o h = rw refusal-is (go (refusal (meaning t) c) refl)
+    where
+      go : (q : Option ℕ) → refusal (meaning t) c ≡ q → Follows t c (unless q t bs o)
+      go none e =
+          let m = h (accepted e) in
+          record { same-state = m .same-state ∙ rw e; same-answer = m .same-answer ∙ rw e; stays-good = m .stays-good }
+      go (some n) e = record { same-state = rw e; same-answer = rw e; stays-good = g }

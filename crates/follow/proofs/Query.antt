@@ -1,10 +1,10 @@
--- Query follows the rules: the tables stay, and the words that the picker returns show exactly the rules' rows.
+-- Query and read follow the rules: the tables stay, and the words that the picker returns show exactly the rules' rows.
 -- Assumes nothing.
-use mathlib.Core.Path.{_≡_, sym, ap, _∙_}
+use mathlib.Core.Path.{_≡_, sym, ap, _∙_, refl}
 use mathlib.Core.Bool.{Bool, false, cond}
 use mathlib.Core.Option.{none, some}
 use mathlib.Core.List.{List, [], _∷_}
-use mathlib.Core.Logic.{_⊎_, inl, inr}
+use mathlib.Core.Logic.{_⊎_, inl, inr, ⊎-elim}
 use Prim.Native.Nat.{ℕ, zero-le, _+_, _*_, _≤_, _<_}
 use native.Mathlib.Omega.{arith}
 use borrow.Author.Tests.{eq-eqb, ne-eqb, lt-ltb, le-leb, le-ltb, ltb-false}
@@ -21,8 +21,8 @@ use Rattle.bits.specs.Words.{bitAt}
 use Rattle.rules.specs.Limits.{maxRows, vectorWords}
 use Rattle.rules.specs.State.{session, startOf, chain}
 use Rattle.rules.specs.Versions.{versionAt, flipped, queried, queriedRows}
-use Rattle.rules.specs.Calls.{query, listed}
-use Rattle.rules.specs.Refusals.{tests}
+use Rattle.rules.specs.Calls.{query, listed, read}
+use Rattle.rules.specs.Refusals.{tests, readIn}
 use Rattle.rules.specs.Step.{querying, effect}
 use Rattle.rules.proofs.Small.{xorb-false}
 use Rattle.tables.specs.Cells.{Tables, valuesIn, slotWords}
@@ -32,14 +32,14 @@ use Rattle.tables.proofs.Slots.{length-slotWords}
 use Rattle.tables.proofs.Tests.{and-both}
 use Rattle.history.specs.Version.{slotSeen}
 use Rattle.history.proofs.Meets.{seen-used, vector-meets}
-use Rattle.calls.specs.Said.{words}
+use Rattle.calls.specs.Said.{words, value}
 use Rattle.calls.specs.Query.{rowsSeen, flipsSeen, asked, queryOf, pickedFrom}
+use Rattle.calls.specs.Outcome.{outcome}
+use Rattle.calls.specs.Calls.{readOf}
 use Rattle.follow.specs.Good.{Good}
-use Rattle.follow.proofs.Good.{good-room, good-parts}
 use Rattle.follow.specs.Heard.{heard}
 use Rattle.follow.specs.Follows.{Follows}
-use Rattle.follow.proofs.Follows.{follows}
-use Rattle.follow.proofs.Seated.{value-low}
+use Rattle.follow.proofs.Good.{good-room, good-parts, follows, value-low}
 
 -- ---- the words picked
 
@@ -97,11 +97,9 @@ module _ (t : Tables) (g : Good t) (s v : ℕ) (below : v < valuesIn (t .clock))
 
   same : (threshold : ℕ) → asked t scratch s v threshold .after ≡ t
   unfolding asked
-  same threshold = go (eq-cases (flipsSeen t s v) 0)
-    where
-      go : (flipsSeen t s v ≡ 0) ⊎ (flipsSeen t s v ≡ 0 → ⊥) → asked t scratch s v threshold .after ≡ t
-      go (inl z) = rw (eq-eqb (flipsSeen t s v) 0 z)
-      go (inr d) = rw (ne-eqb (flipsSeen t s v) 0 d)
+  same threshold =
+      ⊎-elim (λ (z : flipsSeen t s v ≡ 0). rw (eq-eqb (flipsSeen t s v) 0 z))
+      (λ (d : flipsSeen t s v ≡ 0 → ⊥). rw (ne-eqb (flipsSeen t s v) 0 d)) (eq-cases (flipsSeen t s v) 0)
 
 -- ---- the call
 
@@ -123,3 +121,9 @@ query-follows t g scratch n v threshold =
       same-answer = answered t g s v below scratch threshold (room-for (length scratch) (a .fail .1 .1 .1 .0));
       stays-good = rw after g;
     })
+
+pub read-follows : (t : Tables) → Good t → (n r : ℕ) → Follows t (read n r) (readOf t n r)
+unfolding readOf effect
+read-follows t g n r =
+    follows t g (read n r) [] (outcome t [] (value (readIn (meaning t) (session (meaning t) n) r)))
+    (λ a. record { same-state = refl; same-answer = refl; stays-good = g })

@@ -1,11 +1,9 @@
 -- Two change tables that agree up to a place say the same of every stretch up to it: what a commit or a tidy reads while it writes.
 -- Assumes nothing.
-use mathlib.Core.Path.{_≡_, refl, ap, ap₂}
-use mathlib.Core.Bool.{cond}
+use mathlib.Core.Path.{_≡_, ap}
 use mathlib.Core.List.{List}
-use Prim.Native.Nat.{ℕ, zero, suc, _≤_, _<_}
+use Prim.Native.Nat.{ℕ, _≤_, _<_}
 use native.Mathlib.Omega.{arith}
-use lib.Dec.{eqb}
 use Rattle.bits.specs.Bit.{xorb, bit}
 use Rattle.bits.specs.Rows.{smallest-ext}
 use Rattle.bits.specs.Words.{bitAt}
@@ -15,26 +13,16 @@ use Rattle.tables.specs.Cells.{slotWords, endAt}
 use Rattle.tables.specs.Meaning.{changeAt}
 use Rattle.tables.proofs.Stretch.{stretch-same}
 use Rattle.history.specs.Version.{baseSeen}
-use Rattle.history.specs.Last.{lastPlace, lastSet, lastOf}
+use Rattle.history.specs.Last.{lastSet}
 use Rattle.history.specs.Flips.{flippedIn}
 use Rattle.history.specs.Query.{queriedSince, queriedAt}
 use Rattle.history.specs.Read.{readCells}
 
 module _ (changes other : List ℕ) (n : ℕ) (same : (p : ℕ) → p < n → changeAt changes p ≡ changeAt other p) where
-  place-kept : (row m : ℕ) → m ≤ n → lastPlace changes row m ≡ lastPlace other row m
-  unfolding lastPlace
-  place-kept row zero h = refl
-  place-kept row (suc m) h =
-      ap₂ (λ (c : Change) (k : ℕ). cond (eqb (c .row) row) (suc m) k) (same m (omega arith)) (place-kept row m (omega arith))
-
   pub set-kept : (a m row : ℕ) → m ≤ n → lastSet changes a m row ≡ lastSet other a m row
   unfolding lastSet
   set-kept a m row h =
       ap (λ (cs : List Change). orEmpty (lastNaming cs row)) (stretch-same (changeAt changes) (changeAt other) a m (λ j p q. same j (omega arith)))
-
-  pub last-kept : (m row : ℕ) → m ≤ n → lastOf changes m row ≡ lastOf other m row
-  unfolding lastOf
-  last-kept m row h = rw (place-kept row m h, set-kept 0 m row h)
 
   pub flipped-kept : (a m v row : ℕ) → m ≤ n → flippedIn changes a m v row ≡ flippedIn other a m v row
   unfolding flippedIn
@@ -45,4 +33,5 @@ module _ (changes other : List ℕ) (n : ℕ) (same : (p : ℕ) → p < n → ch
   unfolding readCells queriedAt queriedSince
   read-kept slots words heads log values s row h =
       smallest-ext (λ v. queriedAt slots words heads log changes s v row) (λ v. queriedAt slots words heads log other s v row) values
-      (λ v l. ap (xorb (bitAt (slotWords words (baseSeen slots heads log s v .slot)) row)) (flipped-kept (baseSeen slots heads log s v .from) (endAt log s) v row h))
+      (λ v l. ap (xorb (bitAt (slotWords words (baseSeen slots heads log s v .slot)) row))
+      (flipped-kept (baseSeen slots heads log s v .from) (endAt log s) v row h))

@@ -2,10 +2,8 @@
 -- Assumes nothing.
 pub mod VersionLaws
 pub mod LastLaws
-pub mod FlipLaws
 pub mod QueryLaws
 pub mod ReadLaws
 pub mod Meets
-pub mod Shown
 pub mod Ready
 pub mod Kept

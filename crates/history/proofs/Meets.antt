@@ -16,7 +16,7 @@ use Rattle.rules.specs.State.{Change, Version, Chain, chain}
 use Rattle.rules.specs.Log.{between, changesOf, lastNaming, orEmpty, flipSet}
 use Rattle.rules.specs.Versions.{versionAt, flipped, queried, flipCount, readAt}
 use Rattle.rules.specs.Tidy.{moves, moved}
-use Rattle.rules.proofs.VersionLaws.{version-before}
+use Rattle.rules.proofs.LogLaws.{version-before}
 use Rattle.tables.specs.Cells.{Tables, valuesIn, stampIn, slotsIn, slotStamp, slotWords, headOf, endAt}
 use Rattle.tables.specs.Meaning as cells
 use Rattle.tables.specs.Meaning.{meaning}
@@ -26,12 +26,11 @@ use Rattle.tables.proofs.Slots.{each-head}
 use Rattle.tables.proofs.Chains.{version-stamp, version-vector}
 use Rattle.tables.proofs.Means.{chain-means, between-means, upTo-means}
 use Rattle.history.specs.Version.{slotSeen, baseSeen}
-use Rattle.history.specs.Last.{lastSet, lastOf}
+use Rattle.history.specs.Last.{lastSet}
 use Rattle.history.specs.Flips.{flippedIn}
 use Rattle.history.specs.Query.{frontFilled, queriedSince, countSince, scratchSince, queriedAt, foundAt, scratchAt}
-use Rattle.history.specs.Read.{readCells, readAfter}
+use Rattle.history.specs.Read.{readCells}
 use Rattle.history.proofs.VersionLaws.{seen-le, seen-version}
-use Rattle.history.proofs.ReadLaws.{after-cells}
 
 module _ (t : Tables) (good : sound t ≡ true) where
   -- ---- the version of a value
@@ -71,10 +70,6 @@ module _ (t : Tables) (good : sound t ≡ true) where
     unfolding lastSet flipSet
     flipSet-meets r = ap (λ (cs : List Change). orEmpty (lastNaming cs r)) (sym (upTo-means t (parts t good .records-fit) s low))
 
-    pub last-meets : (r : ℕ) → lastOf (t .changes) (endAt (t .log) s) r .set ≡ flipSet (meaning t .log) s r
-    unfolding lastOf
-    last-meets r = flipSet-meets r
-
     -- the rows that a tidy moves
     pub moves-meets : (v r : ℕ) → flippedIn (t .changes) 0 (endAt (t .log) s) v r ≡ moves (meaning t .log) s v r
     unfolding flippedIn
@@ -109,7 +104,8 @@ module _ (t : Tables) (good : sound t ≡ true) where
           (flipped (meaning t .log) (chain (meaning t .chains) v) s v) 2048 (λ r l. flipped-meets r)
 
       pub scratch-meets : (scratch : List ℕ) → scratchAt (t .slots) (t .words) (t .heads) (t .log) (t .changes) scratch s v
-          ≡ cond (eqb (flipCount (meaning t .log) (chain (meaning t .chains) v) s v) 0) scratch (frontFilled (queried (meaning t .log) (chain (meaning t .chains) v) s v) scratch)
+          ≡ cond (eqb (flipCount (meaning t .log) (chain (meaning t .chains) v) s v) 0) scratch
+          (frontFilled (queried (meaning t .log) (chain (meaning t .chains) v) s v) scratch)
       unfolding scratchAt scratchSince frontFilled foundAt queriedAt
       scratch-meets scratch = rw (count-meets, vec-ext _ _ 32 (λ r l. queried-meets r))
 
@@ -122,7 +118,3 @@ module _ (t : Tables) (good : sound t ≡ true) where
     read-meets =
         smallest-ext (λ v. queriedAt (t .slots) (t .words) (t .heads) (t .log) (t .changes) s v row)
         (λ v. queried (meaning t .log) (chain (meaning t .chains) v) s v row) (valuesIn (t .clock)) (λ v l. queried-meets s low v l row)
-
-    pub read-after-meets : readAfter (t .slots) (t .words) (t .heads) (t .log) (valuesIn (t .clock)) s row (lastOf (t .changes) (endAt (t .log) s) row)
-        ≡ readAt (meaning t .values) (meaning t .log) (meaning t .chains) s row
-    read-after-meets = after-cells (t .slots) (t .words) (t .heads) (t .log) (t .changes) (valuesIn (t .clock)) s row ∙ read-meets

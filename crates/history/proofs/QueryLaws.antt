@@ -48,7 +48,8 @@ module _ (words : List ℕ) (slot : ℕ) where
         let f : ℕ → Bool = λ r. xorb (bitAt (slotWords words slot) r) (bitAt mask r) in
         let c : length (slotWords words slot) ≡ 32 = length-slotWords words slot h l in
         let x : d ≡ vec f 32 =
-        e ∙ ap₂ xorWords slot-part (sym (vec-bits mask m) ∙ ap (vec (bitAt mask)) (n ∙ sym c)) ∙ xor-vec (slotWords words slot) (bitAt mask) (words-slotWords words slot w) ∙ ap (vec f) c in
+        e ∙ ap₂ xorWords slot-part (sym (vec-bits mask m) ∙ ap (vec (bitAt mask)) (n ∙ sym c)) ∙ xor-vec (slotWords words slot)
+        (bitAt mask) (words-slotWords words slot w) ∙ ap (vec f) c in
         ap₂ (λ (y : List ℕ) (j : ℕ). y ++ drop j scratch) x (sym (length-vec f 32))
 
 -- ---- the query
@@ -65,7 +66,9 @@ module _ (slots words heads log changes scratch : List ℕ) (s v : ℕ) where
       (m : mask ≡ vec (flippedIn changes (base .from) to v) 32) (c : n ≡ countOf mask) where
     count-is : n ≡ countSince (baseSeen slots heads log s v) changes (endAt log s) v
     unfolding countSince
-    count-is = c ∙ ap countOf m ∙ countOf-vec (flippedIn changes (base .from) to v) 32 ∙ ap₂ (λ (x : Base) (y : ℕ). countBelow (flippedIn changes (x .from) y v) 2048) b t
+    count-is =
+        c ∙ ap countOf m ∙ countOf-vec (flippedIn changes (base .from) to v) 32
+        ∙ ap₂ (λ (x : Base) (y : ℕ). countBelow (flippedIn changes (x .from) y v) 2048) b t
 
     pub count-low : n < 4294967296
     unfolding countSince

@@ -83,8 +83,10 @@ pub after-cells : (slots words heads log changes : List ℕ) (values s row : ℕ
     → readAfter slots words heads log values s row (lastOf changes (endAt log s) row) ≡ readCells slots words heads log changes values s row
 unfolding readAfter readCells hasAfter queriedAt queriedSince
 after-cells slots words heads log changes values s row =
-    smallest-ext (λ w. hasAfter (baseSeen slots heads log s w) words row (lastOf changes (endAt log s) row) w) (λ w. queriedAt slots words heads log changes s w row) values
-    (λ v l. ap (xorb (bitAt (slotWords words (baseSeen slots heads log s v .slot)) row)) (last-flips changes (baseSeen slots heads log s v .from) (endAt log s) v row))
+    smallest-ext (λ w. hasAfter (baseSeen slots heads log s w) words row (lastOf changes (endAt log s) row) w)
+    (λ w. queriedAt slots words heads log changes s w row) values
+    (λ v l. ap (xorb (bitAt (slotWords words (baseSeen slots heads log s v .slot)) row))
+    (last-flips changes (baseSeen slots heads log s v .from) (endAt log s) v row))
 
 -- what `read_at` knows at its end
 pub read-is : (slots words heads log changes : List ℕ) (values s row to : ℕ) (last : Last) (o : Option ℕ) → to ≡ endAt log s → last ≡ lastOf changes to row

@@ -13,7 +13,7 @@ use Rattle.tables.proofs.Facts.{Room, room-facts, Parts, parts, ClockLimits, cl
 use Rattle.history.specs.Version.{Headed, Based}
 use Rattle.history.specs.Flips.{RowsLow}
 use Rattle.history.specs.Query.{Ready}
-use Rattle.history.specs.Read.{Readable, ReadReady}
+use Rattle.history.specs.Read.{ReadReady}
 use Rattle.history.proofs.Meets.{head-used, seen-old}
 
 module _ (t : Tables) (room : roomy t ≡ true) (good : sound t ≡ true) where
@@ -27,16 +27,11 @@ module _ (t : Tables) (room : roomy t ≡ true) (good : sound t ≡ true) where
   k = clock-limits (t .clock) (p .clock-fits)
 
   pub headed : (v : ℕ) → v < valuesIn (t .clock) → Headed (t .slots) (t .heads) v
-  headed v below = record {
-    value-low = omega (arith, k .few-values);
-    slots-room = r .slots-room;
-    heads-room = r .heads-room;
-    head-low = omega (arith, head-used t good v below, k .few-slots);
-  }
+  headed v below = omega (arith, k, r, head-used t good v below)
 
   module _ (s : ℕ) (low : s ≤ stampIn (t .clock)) where
     pub based : (v : ℕ) → v < valuesIn (t .clock) → Based (t .slots) (t .heads) (t .log) s v
-    based v below = record { headed = headed v below; log-room = r .log-room; base-low = omega (arith, seen-old t good s v below, k .few-records) }
+    based v below = omega (arith, k, r, headed v below, seen-old t good s v below)
 
     pub end-low : endAt (t .log) s ≤ 2048
     end-low = omega (arith, end-high (t .clock) (t .log) (p .records-fit) s low, k .few-changes)
@@ -45,7 +40,13 @@ module _ (t : Tables) (room : roomy t ≡ true) (good : sound t ≡ true) where
     rows-low a = record {
       changes-room = r .changes-room;
       end-low = end-low;
-      rows-low = λ j h l. omega (arith, change-at (t .clock) (t .log) (t .changes) (p .records-fit) (p .changes-fit) s j low l .row-low, rows-high-at (t .clock) (t .log) (p .records-fit) s low, k .few-rows);
+      rows-low = λ j h l.
+          omega (
+            arith,
+            change-at (t .clock) (t .log) (t .changes) (p .records-fit) (p .changes-fit) s j low l .row-low,
+            rows-high-at (t .clock) (t .log) (p .records-fit) s low,
+            k .few-rows,
+          );
     }
 
     pub ready : (v : ℕ) → v < valuesIn (t .clock) → (scratch : List ℕ) → 32 ≤ length scratch
@@ -58,12 +59,9 @@ module _ (t : Tables) (room : roomy t ≡ true) (good : sound t ≡ true) where
       rows = rows-low 0;
     }
 
-    pub readable : Readable (t .slots) (t .words) (t .heads) (t .log) (valuesIn (t .clock)) s
-    readable = record { words-room = r .words-room; each-based = based }
-
     pub read-ready : ReadReady (t .slots) (t .words) (t .heads) (t .log) (t .changes) (valuesIn (t .clock)) s
     read-ready = record {
-      readable = readable;
+      readable = record { words-room = r .words-room; each-based = based };
       stamp-low = omega (arith, k .few-records);
       log-room = r .log-room;
       changes-room = r .changes-room;

@@ -12,9 +12,9 @@ use lib.Dec.{leb, ltb, eqb}
 use Rattle.rules.specs.Versions.{versionAt}
 use Rattle.tables.specs.Cells.{slotsIn, slotStamp, slotLink, headOf, endAt}
 use Rattle.tables.specs.Damage.{slotsFit}
-use Rattle.tables.proofs.Slots.{link-falls, link-used, unlinked-old}
 use Rattle.tables.specs.Meaning as cells
 use Rattle.tables.specs.Meaning.{chainFrom, chainAt}
+use Rattle.tables.proofs.Slots.{link-falls, link-used, unlinked-old}
 use Rattle.history.specs.declared.chain.Base.{Base}
 use Rattle.history.specs.Version.{versionStep, versionFrom, versionSlot, slotSeen, baseSeen, Headed, Based}
 

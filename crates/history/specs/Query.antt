@@ -4,7 +4,7 @@ use mathlib.Core.Bool.{Bool, cond}
 use mathlib.Core.List.{List}
 use Prim.Native.Nat.{ℕ, _≤_}
 use lib.Dec.{eqb}
-use lib.ListN.{length, take}
+use lib.ListN.{length}
 use Rattle.bits.specs.Bit.{xorb}
 use Rattle.bits.specs.Rows.{countBelow}
 use Rattle.bits.specs.Tab.{over}
@@ -46,10 +46,6 @@ foundAt slots heads log changes s v =
 -- what it leaves in the scratch
 unfoldable pub scratchAt : List ℕ → List ℕ → List ℕ → List ℕ → List ℕ → List ℕ → ℕ → ℕ → List ℕ
 scratchAt slots words heads log changes scratch s v = scratchSince (baseSeen slots heads log s v) words changes scratch (endAt log s) v
-
--- "If it is 0, the answer is that version's own words, otherwise the scratch's first 32 words"
-unfoldable pub shown : List ℕ → List ℕ → Found → List ℕ
-shown words scratch found = cond (eqb (found .flips) 0) (slotWords words (found .slot)) (take 32 scratch)
 
 -- what a query needs
 pub record Ready (slots words heads log changes scratch : List ℕ) (s v : ℕ) : Type 0 where

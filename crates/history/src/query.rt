@@ -27,7 +27,10 @@ pub fn query_at(
     v: Value,
 ) -> Found
     requires { ⌜ Ready (now slots) (now words) (now heads) (now log) (now changes) (now scratch) (s .0) (v .0) ⌝ }
-    ensures { λ r. ⌜ (r ≡ foundAt (now (slots .entry)) (now (heads .entry)) (now (log .entry)) (now (changes .entry)) (s .0) (v .0)) × (now (scratch .exit) ≡ scratchAt (now (slots .entry)) (now (words .entry)) (now (heads .entry)) (now (log .entry)) (now (changes .entry)) (now (scratch .entry)) (s .0) (v .0)) ⌝ }
+    ensures { λ r. ⌜ (r ≡ foundAt (now (slots .entry)) (now (heads .entry)) (now (log .entry)) (now (changes .entry)) (s .0) (v .0))
+        × (now (scratch .exit) ≡ scratchAt
+        (now (slots .entry)) (now (words .entry)) (now (heads .entry)) (now (log .entry)) (now (changes .entry))
+        (now (scratch .entry)) (s .0) (v .0)) ⌝ }
 {
     let base = chain::base_of(slots, heads, log, v, s);
     let slot = base.slot;

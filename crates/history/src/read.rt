@@ -39,7 +39,8 @@ fn row_has(
     v: Value,
 ) -> bool
     requires { ⌜ (3072 ≤ length (now words)) × Based (now slots) (now heads) (now log) (s .0) (v .0) ⌝ }
-    ensures { λ r. ⌜ r ≡ hasAfter (baseSeen (now (slots .entry)) (now (heads .entry)) (now (log .entry)) (s .0) (v .0)) (now (words .entry)) (row .0) last (v .0) ⌝ }
+    ensures { λ r. ⌜ r ≡ hasAfter (baseSeen (now (slots .entry)) (now (heads .entry)) (now (log .entry)) (s .0) (v .0))
+        (now (words .entry)) (row .0) last (v .0) ⌝ }
 {
     let base = chain::base_of(slots, heads, log, v, s);
     let on = vector::slot_has(words, base.slot, row);
@@ -58,7 +59,8 @@ pub fn read_after(
     last: Last,
 ) -> Standing
     requires { ⌜ Readable (now slots) (now words) (now heads) (now log) (values .0) (s .0) ⌝ }
-    ensures { λ r. ⌜ standingOf r ≡ readAfter (now (slots .entry)) (now (words .entry)) (now (heads .entry)) (now (log .entry)) (values .0) (s .0) (row .0) last ⌝ }
+    ensures { λ r. ⌜ standingOf r ≡ readAfter
+        (now (slots .entry)) (now (words .entry)) (now (heads .entry)) (now (log .entry)) (values .0) (s .0) (row .0) last ⌝ }
 {
     let mut v: u32 = 0;
     while v < values.0 {
@@ -82,7 +84,9 @@ pub fn read_at(
     row: Row,
 ) -> Standing
     requires { ⌜ ReadReady (now slots) (now words) (now heads) (now log) (now changes) (values .0) (s .0) ⌝ }
-    ensures { λ r. ⌜ standingOf r ≡ readCells (now (slots .entry)) (now (words .entry)) (now (heads .entry)) (now (log .entry)) (now (changes .entry)) (values .0) (s .0) (row .0) ⌝ }
+    ensures { λ r. ⌜ standingOf r ≡ readCells
+        (now (slots .entry)) (now (words .entry)) (now (heads .entry)) (now (log .entry)) (now (changes .entry))
+        (values .0) (s .0) (row .0) ⌝ }
 {
     let last = changes::last_naming(changes, tables::end_at(log, s), row);
     read_after(slots, words, heads, log, values, s, row, last)

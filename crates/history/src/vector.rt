@@ -22,7 +22,8 @@ pub fn slot_has(words: &[u64], slot: usize, row: Row) -> bool
 // The scratch's first 32 words become the words of a slot with the rows of the mask turned over.
 pub fn turn_over(scratch: &mut [u64], words: &[u64], slot: usize, mask: &[u64])
     requires { ⌜ (slot < 96) × (3072 ≤ length (now words)) × (32 ≤ length (now scratch)) × (length (now mask) ≡ 32) ⌝ }
-    ensures { λ _. ⌜ now (scratch .exit) ≡ frontFilled (λ r. xorb (bitAt (slotWords (now (words .entry)) slot) r) (bitAt (now (mask .entry)) r)) (now (scratch .entry)) ⌝ }
+    ensures { λ _. ⌜ now (scratch .exit) ≡ frontFilled
+        (λ r. xorb (bitAt (slotWords (now (words .entry)) slot) r) (bitAt (now (mask .entry)) r)) (now (scratch .entry)) ⌝ }
 {
     let a = 32 * slot;
     let e = a + 32;

@@ -49,7 +49,8 @@ none-named (c ∷ cs) r e =
     at false q = refl
 
 -- a test that no change passes fails at the last one that names r
-pub last-fails : (p : Change → Bool) (cs : List Change) (r m : ℕ) → someChange p cs ≡ false → lastNaming cs r ≡ some m → p (record { row = r; flips = m }) ≡ false
+pub last-fails : (p : Change → Bool) (cs : List Change) (r m : ℕ) → someChange p cs ≡ false → lastNaming cs r ≡ some m
+    → p (record { row = r; flips = m }) ≡ false
 last-fails p [] r m e q = absurd (Option·none-ne-some m q)
 last-fails p (c ∷ cs) r m e q = go (lastNaming cs r) refl (λ l. last-fails p cs r m (t .1) l)
   where
@@ -60,6 +61,7 @@ last-fails p (c ∷ cs) r m e q = go (lastNaming cs r) refl (λ l. last-fails p 
     at true u l = rw (← (eqb-true (c .row) r u), ← (Option·some-injective (c .flips) m l)) (t .0)
     at false u l = absurd (Option·none-ne-some m l)
 
-    go : (o : Option ℕ) → lastNaming cs r ≡ o → (lastNaming cs r ≡ some m → p (record { row = r; flips = m }) ≡ false) → p (record { row = r; flips = m }) ≡ false
+    go : (o : Option ℕ) → lastNaming cs r ≡ o → (lastNaming cs r ≡ some m → p (record { row = r; flips = m }) ≡ false)
+        → p (record { row = r; flips = m }) ≡ false
     go none l ih = at (eqb (c .row) r) refl (rw l at q)
     go (some k) l ih = ih (l ∙ (rw l at q))

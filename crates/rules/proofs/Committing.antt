@@ -1,37 +1,37 @@
--- A commit keeps the agreement of log, versions and events. The heart is proved on the flip sets at the present stamp; where
--- nothing conflicts, those at the start are the same. Assumes nothing.
+-- A commit, and a tidy that is not stale, keep the agreement of log, versions and events. The heart of a commit is proved on the
+-- flip sets at the present stamp; where nothing conflicts, those at the start are the same. Assumes nothing.
 use mathlib.Core.Path.{_≡_, refl, sym, ap, _∙_}
-use mathlib.Core.Bool.{Bool, true, false, _||_, cond, or-false, or-true, true≢false, false≢true}
+use mathlib.Core.Bool.{Bool, true, false, _||_, cond, or-false, or-true, true≢false, false≢true, not, _&&_}
 use mathlib.Core.Option.{Option, none, some, Option·getD, Option·map, Option·none-ne-some, Option·some-injective}
-use mathlib.Core.List.{List, [], _∷_, _++_, map}
-use mathlib.Core.Logic.{_⊎_, inl, inr, _↔_}
+use mathlib.Core.List.{List, [], _∷_, _++_, map, List·Memᴰ, List·Memᴰ·head, List·Memᴰ·tail, List·Memᴰ·not-nil, List·Memᴰ·cases-cons}
+use mathlib.Core.Logic.{_⊎_, inl, inr, _↔_, ⊎-elim}
 use Prim.Native.Nat.{ℕ, zero, suc, _+_, _-_, _≤_, _<_}
 use native.Mathlib.Omega.{arith}
-use borrow.Author.Tests.{eqb-true, eq-eqb, ne-eqb}
-use lib.Dec.{eqb}
-use lib.ListN.{length, getD, length-map, List·getD-eq-default}
-use lib.Seq.{getD-append-add}
-use Rattle.bits.specs.Cases.{eq-cases, lt-cases, bool-cases}
-use Rattle.bits.specs.Bit.{xorb, xorb-comm, xorb-swap, bit, flipBit, bit-flip}
+use borrow.Author.Tests.{eqb-true, eq-eqb, ne-eqb, ltb-false}
+use lib.Dec.{eqb, ltb}
+use lib.ListN.{length, getD, length-map, List·getD-eq-default, set, length-set}
+use lib.Seq.{getD-append-add, getD-set-same, getD-set-other}
+use Rattle.bits.specs.Cases.{eq-cases, lt-cases, bool-cases, same-truth}
+use Rattle.bits.specs.Bit.{xorb, xorb-comm, xorb-swap, bit, flipBit, bit-flip, clearBit, bit-clear}
 use Rattle.bits.specs.Choice.{orElse, orElse-none}
+use Rattle.bits.specs.Rows.{rowsBelow, rows-mem, mem-rows}
 use Rattle.rules.specs.Limits.{maxRows}
-use Rattle.rules.specs.State.{Record, commits, Log, Chain, chain, Entry, alter, add}
-use Rattle.rules.specs.Log.{stampOf, above, grown, changesOf, lastNaming, names, flipSet}
-use Rattle.rules.specs.Versions.{readAt}
+use Rattle.rules.specs.State.{Record, commits, Log, Chain, chain, Entry, alter, add, Change, tidies, Version}
+use Rattle.rules.specs.Log.{stampOf, above, grown, changesOf, lastNaming, names, flipSet, someChange}
+use Rattle.rules.specs.Versions.{readAt, newest, queried}
 use Rattle.rules.specs.Lists.{target, lists, inserts, standing}
 use Rattle.rules.specs.Commit.{toggled, newSet, rowChanges, insertChanges, conflicts}
-use Rattle.rules.proofs.Invariant.{Within, EntriesFit, Once}
 use Rattle.rules.specs.Calls.{Column, cell, holds}
-use Rattle.rules.specs.Plain.{Wish, Event, committed, rewritten, newRows, met, isWished, replay}
-use Rattle.rules.proofs.Small.{clash, xorb-false, turn-none}
-use Rattle.rules.proofs.Changes.{lastNaming-append, names-append, not-named, none-named}
-use Rattle.rules.proofs.LogLaws.{flipSet-new, flipSet-kept}
-use Rattle.rules.proofs.PlainLaws.{columnAfter, length-rewritten, length-met, met-low, column-grows}
+use Rattle.rules.specs.Plain.{Wish, Event, committed, rewritten, newRows, met, isWished, replay, tidied, inRows}
+use Rattle.rules.specs.Tidy.{moves, moved, stale, tidyChange, tidyChanges}
+use Rattle.rules.proofs.Invariant.{Within, EntriesFit, Once}
+use Rattle.rules.proofs.Small.{clash, xorb-false, turn-none, or-parts, option-cases}
+use Rattle.rules.proofs.Changes.{lastNaming-append, names-append, not-named, none-named, last-fails}
+use Rattle.rules.proofs.LogLaws.{flipSet-new, flipSet-kept, flipSet-since, version-newest}
+use Rattle.rules.proofs.PlainLaws.{columnAfter, length-rewritten, length-met, met-low, column-grows, Same, same-lists, same-cell}
 use Rattle.rules.proofs.ListLaws.{isGiven, lists-target}
-use Rattle.rules.proofs.Wishes.{Same, same-lists, same-cell}
-use Rattle.rules.proofs.Logged.{Logged, grow-logged, still, valued-now}
-use Rattle.rules.proofs.Agrees.{Agrees, agrees-kept}
-use Rattle.rules.proofs.Core.{Core, read-is}
+use Rattle.rules.proofs.Agrees.{Logged, grow-logged, still, valued-now, columns-fit, Agrees, agrees-kept, right-now, queried-is}
+use Rattle.rules.proofs.Agrees.{moves-none, agrees-renewed, Core, read-is}
 
 -- ---- the changes of a commit, row by row
 
@@ -49,7 +49,8 @@ rows-naming g (add v ∷ es) r o = rows-naming g es r o
 rows-naming g (alter q t ∷ es) r o = rw (rows-naming g es r (o .1)) (go (eq-cases q r))
   where
     go : (q ≡ r) ⊎ (q ≡ r → ⊥)
-        → orElse (Option·map (g r) (target es r)) (cond (eqb q r) (some (g q t)) none) ≡ Option·map (g r) (cond (eqb q r) (some t) (target es r))
+        → orElse (Option·map (g r) (target es r)) (cond (eqb q r) (some (g q t)) none)
+        ≡ Option·map (g r) (cond (eqb q r) (some t) (target es r))
     go (inl e) = rw (no-target es r (rw e at (o .0)), eq-eqb q r e, e)
     go (inr d) = rw (ne-eqb q r d) (orElse-none (Option·map (g r) (target es r)))
 
@@ -59,7 +60,8 @@ rows-names g (alter q t ∷ es) r = rw (rows-names g es r)
 rows-names g (add v ∷ es) r = rows-names g es r
 
 -- two sets for each listed row that are one make the same changes
-rows-same : (f g : ℕ → Option ℕ → ℕ) (es : List Entry) → ((r : ℕ) (t : Option ℕ) → lists es r ≡ true → f r t ≡ g r t) → rowChanges f es ≡ rowChanges g es
+rows-same : (f g : ℕ → Option ℕ → ℕ) (es : List Entry) → ((r : ℕ) (t : Option ℕ) → lists es r ≡ true → f r t ≡ g r t)
+    → rowChanges f es ≡ rowChanges g es
 rows-same f g [] e = refl
 rows-same f g (alter q t ∷ es) e =
     rw (e q t (rw (eq-eqb q q refl)), rows-same f g es (λ r u l. e r u (rw l (or-true (eqb q r)))))
@@ -70,11 +72,13 @@ inserts-low : (n : ℕ) (vs : List ℕ) (r : ℕ) → r < n → lastNaming (inse
 inserts-low n [] r l = refl
 inserts-low n (v ∷ vs) r l = rw (inserts-low (suc n) vs r (omega arith), ne-eqb n r (omega arith))
 
-inserts-at : (n : ℕ) (vs : List ℕ) (r i : ℕ) → r ≡ n + i → lastNaming (insertChanges n vs) r ≡ Option·map (flipBit 0) (getD (map some vs) i none)
+inserts-at : (n : ℕ) (vs : List ℕ) (r i : ℕ) → r ≡ n + i
+    → lastNaming (insertChanges n vs) r ≡ Option·map (flipBit 0) (getD (map some vs) i none)
 inserts-at n [] r i e = refl
 inserts-at n (v ∷ vs) r zero e = rw (inserts-low (suc n) vs r (omega arith), eq-eqb n r (omega arith))
 inserts-at n (v ∷ vs) r (suc i) e =
-    rw (inserts-at (suc n) vs r i (omega arith), ne-eqb n r (omega arith)) (orElse-none (Option·map (flipBit 0) (getD (map some vs) i none)))
+    rw (inserts-at (suc n) vs r i (omega arith), ne-eqb n r (omega arith))
+    (orElse-none (Option·map (flipBit 0) (getD (map some vs) i none)))
 
 -- ---- lists that fit
 
@@ -105,7 +109,8 @@ fits-more C n m (add v ∷ es) l f = (f .0, fits-more C n m es l (f .1))
 
 -- the record of a commit: the set for each listed row from g, then the inserts
 abbrev pub commitOf : (ℕ → Option ℕ → ℕ) → ℕ → List Entry → Record
-commitOf g rows es = record { kind = commits; rows = rows + length (inserts es); changes = rowChanges g es ++ insertChanges rows (inserts es) }
+commitOf g rows es =
+    record { kind = commits; rows = rows + length (inserts es); changes = rowChanges g es ++ insertChanges rows (inserts es) }
 
 -- ---- the log after a commit, and one value's versions
 
@@ -115,7 +120,9 @@ module _ (C : ℕ) (col : Column) (rows : ℕ) (log : Log) (h : List Event) (c :
   added : ℕ → Option ℕ
   added r = getD (map some (inserts es)) (r - rows) none
 
-  naming-at : (r : ℕ) → lastNaming (commitOf g rows es .changes) r ≡ orElse (lastNaming (insertChanges rows (inserts es)) r) (Option·map (g r) (target es r))
+  naming-at : (r : ℕ)
+      → lastNaming (commitOf g rows es .changes) r ≡ orElse (lastNaming (insertChanges rows (inserts es)) r)
+      (Option·map (g r) (target es r))
   naming-at r = rw (lastNaming-append (rowChanges g es) (insertChanges rows (inserts es)) r, rows-naming g es r once)
 
   low-naming : (r : ℕ) → r < rows → lastNaming (commitOf g rows es .changes) r ≡ Option·map (g r) (target es r)
@@ -124,7 +131,8 @@ module _ (C : ℕ) (col : Column) (rows : ℕ) (log : Log) (h : List Event) (c :
   high-naming : (r : ℕ) → rows ≤ r → lastNaming (commitOf g rows es .changes) r ≡ Option·map (flipBit 0) (added r)
   unfolding added
   high-naming r l =
-      naming-at r ∙ rw (fits-high C rows es r fits l, inserts-at rows (inserts es) r (r - rows) (omega arith)) (orElse-none (Option·map (flipBit 0) (getD (map some (inserts es)) (r - rows) none)))
+      naming-at r ∙ rw (fits-high C rows es r fits l, inserts-at rows (inserts es) r (r - rows) (omega arith))
+      (orElse-none (Option·map (flipBit 0) (getD (map some (inserts es)) (r - rows) none)))
 
   low-cell : (r : ℕ) → r < rows → cell (met (replay col h) ws) r ≡ standing (target es r) (cell (replay col h) r)
   low-cell r l =
@@ -160,28 +168,36 @@ module _ (C : ℕ) (col : Column) (rows : ℕ) (log : Log) (h : List Event) (c :
       )
       (or-false (lists es r))
 
-  pub commit-logged : rows + length (inserts es) ≤ maxRows → Logged C col (rows + length (inserts es)) (grown log (commitOf g rows es)) (h ++ (committed ws ∷ []))
+  pub commit-logged : rows + length (inserts es) ≤ maxRows
+      → Logged C col (rows + length (inserts es)) (grown log (commitOf g rows es)) (h ++ (committed ws ∷ []))
   unfolding added
   commit-logged room =
       grow-logged C col rows log h c (commitOf g rows es) (committed ws)
       record {
-        next-rows = rw (length-met (replay col h) ws, same .adds, c .rows-now) (ap (λ (n : ℕ). length (replay col h) + n) (sym (length-map (inserts es) some)));
+        next-rows =
+            rw (length-met (replay col h) ws, same .adds, c .rows-now)
+            (ap (λ (n : ℕ). length (replay col h) + n) (sym (length-map (inserts es) some)));
         next-fit = room;
         next-valued = commit-valued;
-        next-within = λ r l. high-naming r (omega arith) ∙ rw (List·getD-eq-default (map some (inserts es)) none {n = r - rows} (omega (arith, length-map (inserts es) some)));
+        next-within =
+            λ r l. high-naming r (omega arith) ∙ rw (List·getD-eq-default (map some (inserts es)) none {n =
+            r - rows} (omega (arith, length-map (inserts es) some)));
         next-seen = commit-seen;
       }
 
   -- a value agrees after the commit where the sets turn its rows as the list asks
   pub commit-agrees : (ch : Chain) (v : ℕ) → Agrees log ch v col h
-      → ((r : ℕ) (t : Option ℕ) → lists es r ≡ true → bit (g r t) v ≡ xorb (bit (flipSet log (stampOf log) r) v) (xorb (holds (cell (replay col h) r) v) (holds t v)))
+      → ((r : ℕ) (t : Option ℕ) → lists es r ≡ true → bit (g r t) v ≡ xorb (bit (flipSet log (stampOf log) r) v)
+      (xorb (holds (cell (replay col h) r) v) (holds t v)))
       → Agrees (grown log (commitOf g rows es)) ch v col (h ++ (committed ws ∷ []))
   unfolding added
   commit-agrees ch v a turns =
-      agrees-kept log ch v col h a (c .pace) (commitOf g rows es) (committed ws) refl (λ r. rw (flipSet-new log (commitOf g rows es) r) (go r (lt-cases r rows)))
+      agrees-kept log ch v col h a (c .pace) (commitOf g rows es) (committed ws) refl
+      (λ r. rw (flipSet-new log (commitOf g rows es) r) (go r (lt-cases r rows)))
     where
       low : (r : ℕ) (o : Option (Option ℕ)) → target es r ≡ o → bit (Option·getD (Option·map (g r) o) (flipSet log (stampOf log) r)) v
-          ≡ xorb (bit (flipSet log (stampOf log) r) v) (xorb (holds (cell (replay col h) r) v) (holds (standing o (cell (replay col h) r)) v))
+          ≡ xorb (bit (flipSet log (stampOf log) r) v)
+          (xorb (holds (cell (replay col h) r) v) (holds (standing o (cell (replay col h) r)) v))
       low r none q = turn-none (bit (flipSet log (stampOf log) r) v) (holds (cell (replay col h) r) v)
       low r (some t) q = turns r t (lists-target es r ∙ rw q)
 
@@ -189,7 +205,8 @@ module _ (C : ℕ) (col : Column) (rows : ℕ) (log : Log) (h : List Event) (c :
       high none = sym (xorb-false (bit 0 v))
       high (some u) = bit-flip 0 u v ∙ xorb-comm (eqb u v) (bit 0 v)
 
-      go : (r : ℕ) → (r < rows) ⊎ (rows ≤ r) → bit (Option·getD (lastNaming (commitOf g rows es .changes) r) (flipSet log (stampOf log) r)) v
+      go : (r : ℕ) → (r < rows) ⊎ (rows ≤ r)
+          → bit (Option·getD (lastNaming (commitOf g rows es .changes) r) (flipSet log (stampOf log) r)) v
           ≡ xorb (bit (flipSet log (stampOf log) r) v) (xorb (holds (cell (replay col h) r) v) (holds (cell (met (replay col h) ws) r) v))
       go r (inl l) = rw (low-naming r l, low-cell r l) (low r (target es r) refl)
       go r (inr l) =
@@ -228,11 +245,8 @@ conflicts-means log s (alter q t ∷ es) =
     from p (inr b) ih = rw (ih (p .0, rw b at (p .1), p .2)) (or-true (named q))
 
 pub fits-row : (C n : ℕ) (es : List Entry) (r : ℕ) → EntriesFit C n es → lists es r ≡ true → r < n
-fits-row C n es r f l = go (lt-cases r n)
-  where
-    go : (r < n) ⊎ (n ≤ r) → r < n
-    go (inl o) = o
-    go (inr o) = absurd (clash l (lists-target es r ∙ rw (fits-high C n es r f o)))
+fits-row C n es r f l =
+    ⊎-elim (λ (o : r < n). o) (λ (o : n ≤ r). absurd (clash l (lists-target es r ∙ rw (fits-high C n es r f o)))) (lt-cases r n)
 
 -- ---- the whole index after a commit
 
@@ -241,12 +255,14 @@ module _ (C : ℕ) (col : Column) (rows : ℕ) (log : Log) (chains : List Chain)
     (fits : EntriesFit C (length (columnAfter col h s)) es) (room : rows + length (inserts es) ≤ maxRows) where
   -- with the sets at the present stamp, where each listed row holds now what it held at s
   pub commit-present : ((r : ℕ) → lists es r ≡ true → cell (replay col h) r ≡ cell (columnAfter col h s) r)
-      → Core C col (rows + length (inserts es)) (grown log (commitOf (newSet C log chains (stampOf log) s) rows es)) chains (h ++ (committed ws ∷ []))
+      → Core C col (rows + length (inserts es)) (grown log (commitOf (newSet C log chains (stampOf log) s) rows es)) chains
+      (h ++ (committed ws ∷ []))
   commit-present held =
       record {
         logged = commit-logged C col rows log h (c .logged) es ws same once now g room;
         width = c .width;
-        agrees = λ v l. commit-agrees C col rows log h (c .logged) es ws same once now g (chain chains v) v (c .agrees v l) (λ r t. turns v r t);
+        agrees =
+            λ v l. commit-agrees C col rows log h (c .logged) es ws same once now g (chain chains v) v (c .agrees v l) (λ r t. turns v r t);
       }
     where
       now : EntriesFit C rows es
@@ -255,7 +271,8 @@ module _ (C : ℕ) (col : Column) (rows : ℕ) (log : Log) (chains : List Chain)
       g : ℕ → Option ℕ → ℕ
       g = newSet C log chains (stampOf log) s
 
-      turns : (v r : ℕ) (t : Option ℕ) → lists es r ≡ true → bit (g r t) v ≡ xorb (bit (flipSet log (stampOf log) r) v) (xorb (holds (cell (replay col h) r) v) (holds t v))
+      turns : (v r : ℕ) (t : Option ℕ) → lists es r ≡ true
+          → bit (g r t) v ≡ xorb (bit (flipSet log (stampOf log) r) v) (xorb (holds (cell (replay col h) r) v) (holds t v))
       turns v r t l =
           let m = flipSet log (stampOf log) r in
           let a = readAt C log chains s r in
@@ -269,14 +286,177 @@ module _ (C : ℕ) (col : Column) (rows : ℕ) (log : Log) (chains : List Chain)
   commit-keeps calm = rw (rows-same (newSet C log chains s s) (newSet C log chains (stampOf log) s) es same-set) (commit-present held)
     where
       unnamed : (r : ℕ) → lists es r ≡ true → names (changesOf (above log s)) r ≡ false
-      unnamed r l = go (bool-cases (names (changesOf (above log s)) r))
-        where
-          go : (names (changesOf (above log s)) r ≡ true) ⊎ (names (changesOf (above log s)) r ≡ false) → names (changesOf (above log s)) r ≡ false
-          go (inl n) = absurd (clash (conflicts-means log s es .1 (r, l, n)) calm)
-          go (inr n) = n
+      unnamed r l =
+          ⊎-elim (λ (n : names (changesOf (above log s)) r ≡ true). absurd (clash (conflicts-means log s es .1 (r, l, n)) calm))
+          (λ (n : names (changesOf (above log s)) r ≡ false). n) (bool-cases (names (changesOf (above log s)) r))
 
       held : (r : ℕ) → lists es r ≡ true → cell (replay col h) r ≡ cell (columnAfter col h s) r
       held r l = still C col rows log h (c .logged) s r old (fits-row C (length (columnAfter col h s)) es r fits l) (unnamed r l)
 
       same-set : (r : ℕ) (t : Option ℕ) → lists es r ≡ true → newSet C log chains s s r t ≡ newSet C log chains (stampOf log) s r t
       same-set r t l = rw (flipSet-kept log s r (not-named (changesOf (above log s)) r (unnamed r l)))
+
+-- ---- a list of rows, each with a change
+
+in-mem : (rs : List ℕ) (r : ℕ) → inRows rs r ≡ true → List·Memᴰ r rs
+in-mem [] r e = absurd (false≢true e)
+in-mem (q ∷ rs) r e = go (bool-cases (eqb q r)) (in-mem rs r)
+  where
+    go : (eqb q r ≡ true) ⊎ (eqb q r ≡ false) → (inRows rs r ≡ true → List·Memᴰ r rs) → List·Memᴰ r (q ∷ rs)
+    go (inl b) ih = List·Memᴰ·head (sym (eqb-true q r b))
+    go (inr b) ih = List·Memᴰ·tail (ih (rw b at e))
+
+mem-in : (rs : List ℕ) (r : ℕ) → List·Memᴰ r rs → inRows rs r ≡ true
+mem-in [] r m = absurd (List·Memᴰ·not-nil m)
+mem-in (q ∷ rs) r m = go (List·Memᴰ·cases-cons m) (mem-in rs r)
+  where
+    go : (r ≡ q) ⊎ List·Memᴰ r rs → (List·Memᴰ r rs → inRows rs r ≡ true) → (eqb q r || inRows rs r) ≡ true
+    go (inl e) ih = rw (eq-eqb q r (sym e))
+    go (inr o) ih = rw (ih o) (or-true (eqb q r))
+
+-- the rows below n that have f: those that have it
+in-rows : (f : ℕ → Bool) (n r : ℕ) → (f r ≡ true → r < n) → inRows (rowsBelow f n) r ≡ f r
+in-rows f n r low =
+    same-truth (inRows (rowsBelow f n) r) (f r) (λ e. rows-mem f n r (in-mem (rowsBelow f n) r e) .1)
+    (λ e. mem-in (rowsBelow f n) r (mem-rows f n r (low e) e))
+
+module _ (mk : ℕ → Change) (own : (q : ℕ) → mk q .row ≡ q) where
+  map-names : (rs : List ℕ) (r : ℕ) → names (map mk rs) r ≡ inRows rs r
+  map-names [] r = refl
+  map-names (q ∷ rs) r = rw (own q, map-names rs r)
+
+  map-naming : (rs : List ℕ) (r : ℕ) → lastNaming (map mk rs) r ≡ cond (inRows rs r) (some (mk r .flips)) none
+  map-naming [] r = refl
+  map-naming (q ∷ rs) r = rw (map-naming rs r, own q) (go (inRows rs r) (eq-cases q r))
+    where
+      go : (b : Bool) → (q ≡ r) ⊎ (q ≡ r → ⊥)
+          → orElse (cond b (some (mk r .flips)) none) (cond (eqb q r) (some (mk q .flips)) none)
+          ≡ cond (eqb q r || b) (some (mk r .flips)) none
+      go true (inl e) = rw (eq-eqb q r e)
+      go true (inr d) = rw (ne-eqb q r d)
+      go false (inl e) = rw (eq-eqb q r e, e)
+      go false (inr d) = rw (ne-eqb q r d)
+
+-- the record of a tidy
+abbrev pub tidyOf : Log → ℕ → ℕ → ℕ → Record
+tidyOf log rows s v = record { kind = tidies; rows = rows; changes = tidyChanges log s v }
+
+-- ---- the flip sets after a tidy of v at s
+
+module _ (log : Log) (ch : Chain) (s v : ℕ) (fresh : stale log ch s v ≡ false) where
+  fresh-parts : (newest ch .stamp ≤ s) × (someChange (λ c. moves log s v (c .row)) (changesOf (above log s)) ≡ false)
+      × (someChange (λ c. bit (c .flips) v) (changesOf (above log s)) ≡ false)
+  fresh-parts =
+      let p = or-parts (ltb s (newest ch .stamp) || someChange (λ c. moves log s v (c .row)) (changesOf (above log s))) _ fresh in
+      let q = or-parts (ltb s (newest ch .stamp)) _ (p .0) in
+      (ltb-false s (newest ch .stamp) (q .0), q .1, p .1)
+
+  -- no record above s names row r, or a last one does
+  abbrev Later : ℕ → Type 0
+  Later r = (lastNaming (changesOf (above log s)) r ≡ none) ⊎ ((m : ℕ) × (lastNaming (changesOf (above log s)) r ≡ some m))
+
+  -- a row named above s did not move, and its set has no v now: whether a row's set has v has not changed
+  same-bit : (r : ℕ) → bit (flipSet log (stampOf log) r) v ≡ moves log s v r
+  same-bit r = go (option-cases (lastNaming (changesOf (above log s)) r))
+    where
+      go : Later r → bit (flipSet log (stampOf log) r) v ≡ moves log s v r
+      go (inl e) = rw (flipSet-kept log s r e)
+      go (inr p) =
+          let f = last-fails (λ c. moves log s v (c .row)) (changesOf (above log s)) r (p .0) (fresh-parts .1) (p .1) in
+          rw (f, flipSet-since log s r, p .1)
+          (last-fails (λ c. bit (c .flips) v) (changesOf (above log s)) r (p .0) (fresh-parts .2) (p .1))
+
+  -- and the set of a moved row is what it was
+  same-set : (r : ℕ) → moves log s v r ≡ true → flipSet log (stampOf log) r ≡ flipSet log s r
+  same-set r t = go (option-cases (lastNaming (changesOf (above log s)) r))
+    where
+      go : Later r → flipSet log (stampOf log) r ≡ flipSet log s r
+      go (inl e) = flipSet-kept log s r e
+      go (inr p) = absurd (clash t (last-fails (λ c. moves log s v (c .row)) (changesOf (above log s)) r (p .0) (fresh-parts .1) (p .1)))
+
+  module _ (low : (r : ℕ) → moves log s v r ≡ true → r < maxRows) (rows : ℕ) where
+    pub tidy-naming : (r : ℕ) → lastNaming (tidyChanges log s v) r ≡ cond (moves log s v r) (some (clearBit (flipSet log s r) v)) none
+    unfolding tidyChanges moved
+    tidy-naming r =
+        map-naming (tidyChange log s v) (λ q. refl) (rowsBelow (moves log s v) maxRows) r ∙ rw (in-rows (moves log s v) maxRows r (low r))
+
+    -- every set loses v, and nothing else
+    tidy-sets : (r w : ℕ)
+        → bit (flipSet (grown log (tidyOf log rows s v)) (suc (stampOf log)) r) w ≡ (not (eqb v w) && bit (flipSet log (stampOf log) r) w)
+    tidy-sets r w = rw (flipSet-new log (tidyOf log rows s v) r, tidy-naming r) (go (bool-cases (moves log s v r)))
+      where
+        kept : (v ≡ w) ⊎ (v ≡ w → ⊥) → moves log s v r ≡ false
+            → bit (flipSet log (stampOf log) r) w ≡ (not (eqb v w) && bit (flipSet log (stampOf log) r) w)
+        kept (inl e) t = rw (← e, eq-eqb v v refl) (same-bit r ∙ t)
+        kept (inr d) t = rw (ne-eqb v w d)
+
+        go : (moves log s v r ≡ true) ⊎ (moves log s v r ≡ false)
+            → bit (Option·getD (cond (moves log s v r) (some (clearBit (flipSet log s r) v)) none) (flipSet log (stampOf log) r)) w
+            ≡ (not (eqb v w) && bit (flipSet log (stampOf log) r) w)
+        go (inl t) = rw (t, same-set r t) (bit-clear (flipSet log s r) v w)
+        go (inr t) = rw t (kept (eq-cases v w) t)
+
+-- ---- the whole index after a tidy
+
+module _ (C : ℕ) (col : Column) (rows : ℕ) (log : Log) (chains : List Chain) (h : List Event) (c : Core C col rows log chains h)
+    (s : ℕ) (old : s ≤ length h) (v : ℕ) (v-low : v < C) (fresh : stale log (chain chains v) s v ≡ false) where
+  -- the versions of v before
+  abbrev ch : Chain
+  ch = chain chains v
+
+  a : Agrees log ch v col h
+  a = c .agrees v v-low
+
+  unmoved : (r : ℕ) → length (columnAfter col h s) ≤ r → moves log s v r ≡ false
+  unmoved r = moves-none log ch v col h a s r old
+
+  low : (r : ℕ) → moves log s v r ≡ true → r < maxRows
+  low r t =
+      ⊎-elim (λ (l : r < length (columnAfter col h s)). omega (arith, columns-fit C col rows log h (c .logged) s))
+      (λ (l : length (columnAfter col h s) ≤ r). absurd (clash t (unmoved r l))) (lt-cases r (length (columnAfter col h s)))
+
+  -- v's rows are now as they were at s
+  agree : (r : ℕ) → holds (cell (columnAfter col h s) r) v ≡ holds (cell (replay col h) r) v
+  agree r =
+      let n = version-newest ch s (fresh-parts log ch s v fresh .0) in
+      rw (← (right-now log ch v col h a (c .logged .pace) r), ← (a .right s r old), n, same-bit log ch s v fresh r)
+
+  -- the record and the version of the tidy
+  abbrev x : Record
+  x = tidyOf log rows s v
+
+  abbrev y : Version
+  y = record { stamp = suc (stampOf log); vector = queried log ch s v }
+
+  tidy-logged : Logged C col rows (grown log x) (h ++ (tidied v (moved log s v) ∷ []))
+  unfolding tidyChanges
+  tidy-logged =
+      grow-logged C col rows log h (c .logged) x (tidied v (moved log s v))
+      record {
+        next-rows = c .logged .rows-now;
+        next-fit = c .logged .rows-fit;
+        next-valued = valued-now C col rows log h (c .logged);
+        next-within =
+            λ r l. tidy-naming log ch s v fresh low rows r ∙ rw (unmoved r (omega (arith, column-grows col h s, c .logged .rows-now)));
+        next-seen = λ r l. map-names (tidyChange log s v) (λ q. refl) (moved log s v) r;
+      }
+
+  tidy-agrees : (w : ℕ) → w < C → Agrees (grown log x) (chain (set chains v (y ∷ ch)) w) w col (h ++ (tidied v (moved log s v) ∷ []))
+  tidy-agrees w l = go (eq-cases w v)
+    where
+      go : (w ≡ v) ⊎ (w ≡ v → ⊥) → Agrees (grown log x) (chain (set chains v (y ∷ ch)) w) w col (h ++ (tidied v (moved log s v) ∷ []))
+      go (inl e) =
+          rw (e, getD-set-same chains v (y ∷ ch) [] (omega (arith, c .width)))
+          (agrees-renewed log ch v col h a (c .logged .pace) x (tidied v (moved log s v)) (queried log ch s v) (eq-eqb v v refl)
+          (λ r. tidy-sets log ch s v fresh low rows r v ∙ rw (eq-eqb v v refl)) (λ r. queried-is log ch v col h a s r old ∙ agree r))
+      go (inr d) =
+          let o : eqb v w ≡ false = ne-eqb v w (λ e. d (sym e)) in
+          rw (getD-set-other chains v w (y ∷ ch) [] d)
+          (agrees-kept log (chain chains w) w col h (c .agrees w l) (c .logged .pace) x (tidied v (moved log s v)) o
+          (λ r. tidy-sets log ch s v fresh low rows r w
+          ∙ rw o (turn-none (bit (flipSet log (stampOf log) r) w) (holds (cell (replay col h) r) w))))
+
+  pub tidy-keeps : Core C col rows (grown log (tidyOf log rows s v))
+      (set chains v (record { stamp = suc (stampOf log); vector = queried log (chain chains v) s v } ∷ chain chains v))
+      (h ++ (tidied v (moved log s v) ∷ []))
+  tidy-keeps = record { logged = tidy-logged; width = length-set chains v (y ∷ ch) ∙ c .width; agrees = tidy-agrees }

@@ -14,52 +14,34 @@ use Rattle.rules.specs.Commit.{toggled, commitChanges}
 use Rattle.rules.specs.Tidy.{moved, tidyChanges}
 use Rattle.rules.specs.Refusals.{badColumn, tests}
 use Rattle.rules.specs.Step.{created, effect, step, run}
-use Rattle.rules.specs.Examples.{firstColumn, start, printed, printed₆, printed₈, printed₉, emptying, returning, replacing, overtaking, setOf, rowWith, Marked, Caught}
+use Rattle.rules.specs.Examples.{firstColumn, start, printed, printed₆, printed₈, printed₉, emptying, returning, replacing}
+use Rattle.rules.specs.Examples.{overtaking, setOf, rowWith, Marked, Caught}
 
 -- the sets of the examples, as the numbers that the rules compute
-none-set : setOf [] ≡ 0
-unfolding setOf
-none-set = refl
-
-set-1 : setOf (1 ∷ []) ≡ 2
+sets : (setOf [] ≡ 0) × (setOf (1 ∷ []) ≡ 2) × (setOf (2 ∷ []) ≡ 4) × (setOf (1 ∷ 3 ∷ []) ≡ 10) × (setOf (2 ∷ 3 ∷ []) ≡ 12)
+    × (setOf (1 ∷ 2 ∷ 3 ∷ []) ≡ 14)
 unfolding setOf setBit
-set-1 = refl
-
-set-2 : setOf (2 ∷ []) ≡ 4
-unfolding setOf setBit
-set-2 = refl
-
-set-13 : setOf (1 ∷ 3 ∷ []) ≡ 10
-unfolding setOf setBit
-set-13 = refl
-
-set-23 : setOf (2 ∷ 3 ∷ []) ≡ 12
-unfolding setOf setBit
-set-23 = refl
-
-set-123 : setOf (1 ∷ 2 ∷ 3 ∷ []) ≡ 14
-unfolding setOf setBit
-set-123 = refl
+sets = (refl, refl, refl, refl, refl, refl)
 
 -- records in numbers are records in sets
 module _ (l : List (List (ℕ × ℕ))) where
   records-1 : l ≡ ((0, 10) ∷ []) ∷ [] → l ≡ rowWith 0 (1 ∷ 3 ∷ []) ∷ []
-  records-1 e = rw set-13 e
+  records-1 e = rw (sets .3) e
 
   records-2 : l ≡ ((0, 10) ∷ []) ∷ ((0, 2) ∷ []) ∷ [] → l ≡ rowWith 0 (1 ∷ 3 ∷ []) ∷ rowWith 0 (1 ∷ []) ∷ []
-  records-2 e = rw (set-13, set-1) e
+  records-2 e = rw (sets .3, sets .1) e
 
   records-3 : l ≡ ((0, 10) ∷ []) ∷ ((0, 2) ∷ []) ∷ ((0, 14) ∷ []) ∷ []
       → l ≡ rowWith 0 (1 ∷ 3 ∷ []) ∷ rowWith 0 (1 ∷ []) ∷ rowWith 0 (1 ∷ 2 ∷ 3 ∷ []) ∷ []
-  records-3 e = rw (set-13, set-1, set-123) e
+  records-3 e = rw (sets .3, sets .1, sets .5) e
 
   records-4 : l ≡ ((0, 10) ∷ []) ∷ ((0, 2) ∷ []) ∷ ((0, 14) ∷ []) ∷ ((4, 4) ∷ []) ∷ []
       → l ≡ rowWith 0 (1 ∷ 3 ∷ []) ∷ rowWith 0 (1 ∷ []) ∷ rowWith 0 (1 ∷ 2 ∷ 3 ∷ []) ∷ rowWith 4 (2 ∷ []) ∷ []
-  records-4 e = rw (set-13, set-1, set-123, set-2) e
+  records-4 e = rw (sets .3, sets .1, sets .5, sets .2) e
 
   records-emptied : l ≡ ((0, 10) ∷ []) ∷ ((0, 2) ∷ []) ∷ ((0, 0) ∷ []) ∷ ((0, 12) ∷ []) ∷ []
       → l ≡ rowWith 0 (1 ∷ 3 ∷ []) ∷ rowWith 0 (1 ∷ []) ∷ rowWith 0 [] ∷ rowWith 0 (2 ∷ 3 ∷ []) ∷ []
-  records-emptied e = rw (set-13, set-1, none-set, set-23) e
+  records-emptied e = rw (sets .3, sets .1, sets .0, sets .4) e
 
 pub marked : Marked
 unfolding firstColumn printed printed₆ printed₈ printed₉ created effect step run badColumn tests maxValues maxRows maxSlots maxRecords maxChanges maxSessions maxEntries vectorWords stampOf upTo above between grown allChanges flipSet versionAt flipped queried readAt toggled commitChanges moved tidyChanges bit flipBit clearBit bitAt tab rowsBelow countBelow smallestBelow

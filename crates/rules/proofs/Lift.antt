@@ -8,9 +8,9 @@ use Rattle.rules.specs.State.{State}
 use Rattle.rules.specs.Calls.{Column, Call, Answer}
 use Rattle.rules.specs.Refusals.{badColumn}
 use Rattle.rules.specs.Step.{created, step, transcript}
-use Rattle.rules.proofs.Invariant.{Undamaged}
 use Rattle.rules.specs.Plain.{started}
 use Rattle.rules.specs.Demand.{AllRight}
+use Rattle.rules.proofs.Invariant.{Undamaged}
 use Rattle.rules.proofs.EveryRun.{every-run}
 use Rattle.rules.proofs.Undamaged.{created-undamaged, step-undamaged}
 

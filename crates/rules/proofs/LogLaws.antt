@@ -1,18 +1,22 @@
 -- The log's stretches, and the flip sets at a stamp: what the other proofs know of how the log lies. Beside this file only
--- Fits.antt unfolds `stampOf`, `upTo`, `above`, `between`, `grown` or `allChanges`. Assumes nothing.
+-- Fits.antt unfolds `stampOf`, `upTo`, `above`, `between`, `grown` or `allChanges`. And the version of a value at a stamp.
+-- Assumes nothing.
 use mathlib.Core.Path.{_≡_, refl, sym, ap, _∙_}
-use mathlib.Core.Bool.{false}
+use mathlib.Core.Bool.{false, Bool, true, cond}
 use mathlib.Core.Option.{Option, none, some, Option·getD}
 use mathlib.Core.List.{List, [], _∷_, _++_}
-use Prim.Native.Nat.{ℕ, zero, suc, _≤_}
+use Prim.Native.Nat.{ℕ, zero, suc, _≤_, _<_}
 use native.Mathlib.Nat.{le-of-suc-le-suc, not-suc-le-zero}
+use native.Mathlib.Omega.{arith}
+use borrow.Author.Tests.{leb-true, leb-false, le-leb, lt-leb}
 use lib.ListN.{take, drop, take-append-drop}
 use lib.Seq.{take-append-le, drop-append-le, take-take, take-length, take-nil, drop-nil}
+use lib.Dec.{leb}
 use Rattle.bits.specs.Bit.{bit, bit-of-zero}
 use Rattle.bits.specs.Choice.{orElse}
-use Rattle.rules.specs.State.{Record, Log, Chain}
+use Rattle.rules.specs.State.{Record, Log, Chain, Version}
 use Rattle.rules.specs.Log.{stampOf, upTo, above, between, grown, changesOf, allChanges, lastNaming, orEmpty, flipSet, rowsAt}
-use Rattle.rules.specs.Versions.{versionAt, flipped}
+use Rattle.rules.specs.Versions.{versionAt, flipped, newest}
 use Rattle.rules.proofs.Invariant.{ChangesFit, LogFits}
 use Rattle.rules.proofs.Small.{length-snoc, take-snoc, drop-snoc}
 use Rattle.rules.proofs.Changes.{lastNaming-append, changesOf-append, changesOf-snoc}
@@ -60,7 +64,8 @@ pub flipSet-old : (log : Log) (x : Record) (k r : ℕ) → k ≤ stampOf log →
 unfolding flipSet stampOf upTo grown
 flipSet-old log x k r h = rw (take-append-le k log (x ∷ []) h)
 
-pub flipSet-new : (log : Log) (x : Record) (r : ℕ) → flipSet (grown log x) (suc (stampOf log)) r ≡ Option·getD (lastNaming (x .changes) r) (flipSet log (stampOf log) r)
+pub flipSet-new : (log : Log) (x : Record) (r : ℕ)
+    → flipSet (grown log x) (suc (stampOf log)) r ≡ Option·getD (lastNaming (x .changes) r) (flipSet log (stampOf log) r)
 unfolding flipSet stampOf upTo grown
 flipSet-new log x r =
     rw (take-snoc log x, changesOf-snoc log x, lastNaming-append (changesOf log) (x .changes) r, take-length)
@@ -115,3 +120,35 @@ pub fits-grown : (C n : ℕ) (log : Log) (x : Record) (m : ℕ) → LogFits C n 
 unfolding grown
 fits-grown C n [] x m e l f = (rw e l, f, refl)
 fits-grown C n (y ∷ log) x m h l f = (h .0, h .1, fits-grown C (y .rows) log x m (h .2) l f)
+
+pub version-newest : (ch : Chain) (k : ℕ) → newest ch .stamp ≤ k → versionAt ch k ≡ newest ch
+unfolding versionAt
+version-newest [] k h = refl
+version-newest (x ∷ xs) k h = rw (le-leb (x .stamp) k h)
+
+pub version-older : (x : Version) (ch : Chain) (k : ℕ) → k < x .stamp → versionAt (x ∷ ch) k ≡ versionAt ch k
+unfolding versionAt
+version-older x ch k h = rw (lt-leb (x .stamp) k h)
+
+pub version-before : (ch : Chain) (k : ℕ) → versionAt ch k .stamp ≤ k
+unfolding versionAt
+version-before [] k = omega arith
+version-before (x ∷ xs) k = go (leb (x .stamp) k) refl (version-before xs k)
+  where
+    go : (b : Bool) → leb (x .stamp) k ≡ b → versionAt xs k .stamp ≤ k → cond b x (versionAt xs k) .stamp ≤ k
+    go true e h = leb-true (x .stamp) k e
+    go false e h = h
+
+-- at its own stamp a version is found again
+pub version-again : (ch : Chain) (k : ℕ) → versionAt ch (versionAt ch k .stamp) ≡ versionAt ch k
+unfolding versionAt
+version-again [] k = refl
+version-again (x ∷ xs) k = go (leb (x .stamp) k) refl (version-again xs k) (version-before xs k)
+  where
+    go : (b : Bool) → leb (x .stamp) k ≡ b → versionAt xs (versionAt xs k .stamp) ≡ versionAt xs k → versionAt xs k .stamp ≤ k
+        → versionAt (x ∷ xs) (cond b x (versionAt xs k) .stamp) ≡ cond b x (versionAt xs k)
+    go true e ih h = rw (le-leb (x .stamp) (x .stamp) (omega arith))
+    go false e ih h =
+        let l : k < x .stamp = leb-false (x .stamp) k e in
+        let m : versionAt xs k .stamp < x .stamp = omega arith in
+        rw (lt-leb (x .stamp) (versionAt xs k .stamp) m) ih

@@ -8,7 +8,8 @@ use mathlib.Core.Logic.{_⊎_, inl, inr, ⊎-elim, _↔_}
 use Prim.Native.Nat.{ℕ, _≤_, _<_}
 use native.Mathlib.Omega.{arith}
 use Rattle.rules.specs.State.{State, Session, free, opened, session}
-use Rattle.rules.specs.Calls.{Call, create, begin, query, read, update, delete, insert, commit, tidy, abort, Answer, refused, ok, value, listed}
+use Rattle.rules.specs.Calls.{Call, create, begin, query, read, update, delete, insert, commit, tidy, abort, Answer, refused, ok}
+use Rattle.rules.specs.Calls.{value, listed}
 use Rattle.rules.specs.Refusals.{Test, firstOf, First, tests, refusal, AllFail}
 use Rattle.rules.specs.Step.{beginning, effect, unless, step}
 use Rattle.rules.proofs.Tests.{all-fail, fail-all}
@@ -37,11 +38,12 @@ pub number-first : (ts : List Test) (n : ℕ) → First ts n → firstOf ts ≡ 
 number-first ts n f = ap firstOf (f .split) ∙ past (f .before) (f .after) n (f .fail)
 
 -- each number of the table is larger than the one before it, and the first than n
-abbrev Rising : ℕ → List Test → Type 0
+abbrev pub Rising : ℕ → List Test → Type 0
 Rising n [] = Unit {0}
 Rising n (t ∷ ts) = (n < t .1) × Rising (t .1) ts
 
-tests-rise : (st : State) (c : Call) → Rising 0 (tests st c)
+-- the rules' numbers rise from 3 on
+pub tests-rise : (st : State) (c : Call) → Rising 2 (tests st c)
 unfolding tests
 tests-rise st (create C col) = omega arith
 tests-rise st (begin i) = omega arith
@@ -59,24 +61,33 @@ rise-low [] n h t m = absurd (List·Memᴰ·not-nil m)
 rise-low (x ∷ ts) n h t m =
     ⊎-elim (λ (e : t ≡ x). rw e (h .0)) (λ (k : List·Memᴰ t ts). omega (arith, h .0, rise-low ts (x .1) (h .1) t k)) (List·Memᴰ·cases-cons m)
 
-first-low : (ts : List Test) (m : ℕ) → Rising m ts → (n : ℕ) → firstOf ts ≡ some n → (t : Test) → List·Memᴰ t ts → t .0 ≡ true → n ≤ t .1
-first-low [] m h n e t k p = absurd (List·Memᴰ·not-nil k)
-first-low (x ∷ ts) m h n e t k p = go (x .0) refl e (List·Memᴰ·cases-cons k) (λ q l. first-low ts (x .1) (h .1) n q t l p)
+-- in such a table a number is given whenever a test holds, and none that applies is smaller
+pub least : (ts : List Test) (m : ℕ) → Rising m ts → (t : Test) → List·Memᴰ t ts → t .0 ≡ true → (n : ℕ) × (firstOf ts ≡ some n) × (n ≤ t .1)
+least [] m h t k p = absurd (List·Memᴰ·not-nil k)
+least (x ∷ ts) m h t k p = go (x .0) refl (List·Memᴰ·cases-cons k) (λ l. least ts (x .1) (h .1) t l p)
   where
-    go : (b : Bool) → x .0 ≡ b → cond b (some (x .1)) (firstOf ts) ≡ some n → (t ≡ x) ⊎ List·Memᴰ t ts → (firstOf ts ≡ some n → List·Memᴰ t ts → n ≤ t .1)
-        → n ≤ t .1
-    go true a q (inl l) ih = let z : x .1 ≡ n = cc in rw l (omega arith)
-    go true a q (inr l) ih = let z : x .1 ≡ n = cc in omega (arith, rise-low ts (x .1) (h .1) t l)
-    go false a q (inl l) ih = absurd (false≢true (sym a ∙ (ap (λ (y : Test). y .0) (sym l) ∙ p)))
-    go false a q (inr l) ih = ih q l
+    go : (b : Bool) → x .0 ≡ b → (t ≡ x) ⊎ List·Memᴰ t ts → (List·Memᴰ t ts → (n : ℕ) × (firstOf ts ≡ some n) × (n ≤ t .1))
+        → (n : ℕ) × (cond b (some (x .1)) (firstOf ts) ≡ some n) × (n ≤ t .1)
+    go true a (inl l) ih = (x .1, refl, rw l (omega arith))
+    go true a (inr l) ih = (x .1, refl, omega (arith, rise-low ts (x .1) (h .1) t l))
+    go false a (inl l) ih = absurd (false≢true (sym a ∙ (ap (λ (y : Test). y .0) (sym l) ∙ p)))
+    go false a (inr l) ih = ih l
 
--- the number that a call is refused by is that of the first test of its table that holds
-pub given-number : (st : State) (c : Call) (n : ℕ) → refusal st c ≡ some n → First (tests st c) n
-given-number st c n e = first-number (tests st c) n e
+-- and the number given is above m
+pub first-above : (ts : List Test) (m : ℕ) → Rising m ts → (n : ℕ) → firstOf ts ≡ some n → m < n
+first-above [] m h n e = absurd (Option·none-ne-some n e)
+first-above (x ∷ ts) m h n e = go (x .0) e (first-above ts (x .1) (h .1) n)
+  where
+    go : (b : Bool) → cond b (some (x .1)) (firstOf ts) ≡ some n → (firstOf ts ≡ some n → x .1 < n) → m < n
+    go true q ih = let z : x .1 ≡ n = cc in omega (arith, h .0)
+    go false q ih = omega (arith, h .0, ih q)
 
 -- "The smallest number that applies is given.": no test that holds has a smaller one
 pub smallest-number : (st : State) (c : Call) (n : ℕ) → refusal st c ≡ some n → (t : Test) → List·Memᴰ t (tests st c) → t .0 ≡ true → n ≤ t .1
-smallest-number st c n e = first-low (tests st c) 0 (tests-rise st c) n e
+smallest-number st c n e t k p =
+    let l = least (tests st c) 2 (tests-rise st c) t k p in
+    let z : l .0 ≡ n = cc in
+    omega (arith, l .2)
 
 -- "A refusal answers the number and nothing more; no table, scratch or session cell changes."
 pub refused-changes-nothing : (st : State) (c : Call) (n : ℕ) → refusal st c ≡ some n → step st c ≡ (st, refused n)

@@ -4,23 +4,22 @@ use mathlib.Core.Path.{_≡_, refl, sym, ap, ap₂, _∙_}
 use mathlib.Core.Bool.{Bool, true, false, _||_, cond, or-assoc, or-comm, or-false}
 use mathlib.Core.Option.{Option, some}
 use mathlib.Core.List.{List, [], _∷_, _++_}
-use Prim.Native.Nat.{ℕ, zero, suc, _+_, _-_, _≤_, _<_}
+use Prim.Native.Nat.{ℕ, zero, suc, _+_, _<_}
 use native.Mathlib.Omega.{arith}
 use native.Mathlib.Numerals.{add-one}
-use borrow.Author.Tests.{eqb-true, eq-eqb, ne-eqb}
+use borrow.Author.Tests.{eq-eqb}
 use lib.Dec.{eqb}
-use lib.ListN.{length, getD, take, drop, set}
-use lib.Seq.{take-suc, drop-cons}
-use Rattle.bits.specs.Cases.{same-truth}
+use lib.ListN.{length, getD, take, set}
+use lib.Seq.{take-suc}
 use Rattle.bits.specs.Choice.{orElse}
-use Rattle.bits.specs.Rows.{countBelow, length-rows, where-cut}
+use Rattle.bits.specs.Rows.{countBelow}
 use Rattle.rules.specs.State.{Change, Record, Log, Entry, alter, add}
-use Rattle.rules.specs.Log.{above, changesOf, naming, lastNaming, someChange}
+use Rattle.rules.specs.Log.{above, changesOf, someChange}
 use Rattle.rules.specs.Lists.{target, lists, put, inserts}
-use Rattle.rules.specs.Commit.{rowChanges, insertChanges, conflicts}
+use Rattle.rules.specs.Commit.{rowChanges, conflicts}
 pub use Rattle.rules.specs.Commit.{someOf, hits, hitsList}
 use Rattle.rules.proofs.Small.{or-parts}
-use Rattle.rules.proofs.Changes.{someChange-append, names-append, lastNaming-append}
+use Rattle.rules.proofs.Changes.{names-append}
 
 -- ---- a test over a list
 
@@ -38,12 +37,9 @@ module _ {A : Type 0} where
     pub some-snoc : (xs : List A) (x : A) → someOf p (xs ++ (x ∷ [])) ≡ (someOf p xs || p x)
     some-snoc xs x = some-append xs (x ∷ []) ∙ ap (λ (b : Bool). someOf p xs || b) (or-false (p x))
 
-    -- a scan that has passed j elements, and one that has j elements left
+    -- a scan that has passed j elements
     pub some-passed : (xs : List A) (j : ℕ) (d : A) → j < length xs → someOf p (take (j + 1) xs) ≡ (someOf p (take j xs) || p (getD xs j d))
     some-passed xs j d h = rw (add-one, take-suc xs j d h) (some-snoc (take j xs) (getD xs j d))
-
-    pub some-left : (xs : List A) (j : ℕ) (d : A) → j < length xs → someOf p (drop j xs) ≡ (p (getD xs j d) || someOf p (drop (j + 1) xs))
-    some-left xs j d h = rw (drop-cons xs j d h, add-one)
 
   pub some-ext : (p q : A → Bool) (xs : List A) → ((x : A) → p x ≡ q x) → someOf p xs ≡ someOf q xs
   some-ext p q [] h = refl
@@ -59,36 +55,6 @@ module _ {A : Type 0} where
 pub some-change : (p : Change → Bool) (cs : List Change) → someChange p cs ≡ someOf p cs
 some-change p [] = refl
 some-change p (c ∷ cs) = rw (some-change p cs)
-
--- the changes of some records, record by record
-pub by-records : (p : Change → Bool) (xs : List Record) → someChange p (changesOf xs) ≡ someOf (λ x. someChange p (x .changes)) xs
-by-records p [] = refl
-by-records p (x ∷ xs) = rw (someChange-append p (x .changes) (changesOf xs), by-records p xs)
-
--- the last change naming a row, where one change more is at the end: it names the row, or it does not. A scan forward has found
--- so much, a scan backward has so much left
-module _ (cs : List Change) (c : Change) (r : ℕ) where
-  pub last-snoc : lastNaming (cs ++ (c ∷ [])) r ≡ orElse (naming c r) (lastNaming cs r)
-  last-snoc = lastNaming-append cs (c ∷ []) r
-
-  pub last-here : c .row ≡ r → lastNaming (cs ++ (c ∷ [])) r ≡ some (c .flips)
-  last-here e = last-snoc ∙ rw (eq-eqb (c .row) r e)
-
-  pub last-past : (c .row ≡ r → ⊥) → lastNaming (cs ++ (c ∷ [])) r ≡ lastNaming cs r
-  last-past n = last-snoc ∙ rw (ne-eqb (c .row) r n)
-
-module _ (cs : List Change) (r j : ℕ) (d : Change) (h : j < length cs) where
-  more : take (j + 1) cs ≡ take j cs ++ (getD cs j d ∷ [])
-  more = rw (add-one, take-suc cs j d h)
-
-  pub last-passed : lastNaming (take (j + 1) cs) r ≡ orElse (naming (getD cs j d) r) (lastNaming (take j cs) r)
-  last-passed = rw more (last-snoc (take j cs) (getD cs j d) r)
-
-  pub last-passed-here : getD cs j d .row ≡ r → lastNaming (take (j + 1) cs) r ≡ some (getD cs j d .flips)
-  last-passed-here e = rw more (last-here (take j cs) (getD cs j d) r e)
-
-  pub last-passed-past : (getD cs j d .row ≡ r → ⊥) → lastNaming (take (j + 1) cs) r ≡ lastNaming (take j cs) r
-  last-passed-past n = rw more (last-past (take j cs) (getD cs j d) r n)
 
 -- ---- the conflict search: records above the start, and for each the listed rows
 
@@ -117,19 +83,6 @@ conflict-by-entries log s (add v ∷ es) = conflict-by-entries log s es
 pub conflict-by-records : (log : Log) (s : ℕ) (es : List Entry) → conflicts log s es ≡ someOf (λ x. hitsList es (x .changes)) (above log s)
 conflict-by-records log s es = conflict-by-entries log s es ∙ list-records es (above log s)
 
--- whether one of the changes names a listed row, change by change
-pub hits-by-changes : (es : List Entry) (cs : List Change) → hitsList es cs ≡ someChange (λ c. lists es (c .row)) cs
-hits-by-changes es [] = list-nil es
-hits-by-changes es (c ∷ cs) = list-append es (c ∷ []) cs ∙ ap₂ (λ (a b : Bool). a || b) (one es) (hits-by-changes es cs)
-  where
-    same : (a b : ℕ) → eqb a b ≡ eqb b a
-    same a b = same-truth (eqb a b) (eqb b a) (λ e. eq-eqb b a (sym (eqb-true a b e))) (λ e. eq-eqb a b (sym (eqb-true b a e)))
-
-    one : (xs : List Entry) → hitsList xs (c ∷ []) ≡ lists xs (c .row)
-    one [] = refl
-    one (alter r t ∷ xs) = ap₂ (λ (a b : Bool). a || b) (or-false (eqb (c .row) r) ∙ same (c .row) r) (one xs)
-    one (add v ∷ xs) = one xs
-
 -- ---- a session's list, one part after another
 
 pub target-append : (xs ys : List Entry) (r : ℕ) → target (xs ++ ys) r ≡ orElse (target xs r) (target ys r)
@@ -156,10 +109,6 @@ inserts-append [] ys = refl
 inserts-append (alter r t ∷ xs) ys = inserts-append xs ys
 inserts-append (add v ∷ xs) ys = rw (inserts-append xs ys)
 
-pub insertChanges-append : (n : ℕ) (vs ws : List ℕ) → insertChanges n (vs ++ ws) ≡ insertChanges n vs ++ insertChanges (n + length vs) ws
-insertChanges-append n [] ws = let e : n + 0 ≡ n = omega arith in rw e
-insertChanges-append n (v ∷ vs) ws = let e : n + suc (length vs) ≡ suc n + length vs = omega arith in rw (insertChanges-append (suc n) vs ws, e)
-
 -- "A second change of a row replaces the entry where it stands.": a row that is not listed goes to the end, one that stands
 -- first at i stays there
 pub put-new : (es : List Entry) (r : ℕ) (t : Option ℕ) → lists es r ≡ false → put es r t ≡ es ++ (alter r t ∷ [])
@@ -182,7 +131,3 @@ put-there (add v ∷ es) (suc i) r t u d l g e = rw (put-there es i r t u d (ome
 pub count-more : (f : ℕ → Bool) (n : ℕ) → countBelow f (n + 1) ≡ countBelow f n + cond (f n) 1 0
 unfolding countBelow
 count-more f n = ap (countBelow f) (add-one n)
-
--- where no number at or above n has f, more numbers add none
-pub count-cut : (f : ℕ → Bool) (n m : ℕ) → ((r : ℕ) → n ≤ r → f r ≡ false) → n ≤ m → countBelow f m ≡ countBelow f n
-count-cut f n m h l = sym (length-rows f m) ∙ ap length (where-cut f n m h l) ∙ length-rows f n

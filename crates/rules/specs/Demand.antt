@@ -1,16 +1,18 @@
 -- What demand 3 claims of a call and its answer, in the plain observer's words, before the observer takes note of them.
 -- Assumes nothing.
 use mathlib.Core.Path.{_≡_}
-use mathlib.Core.Bool.{Bool, true, false}
-use mathlib.Core.Option.{Option, none, some}
+use mathlib.Core.Bool.{Bool, true}
+use mathlib.Core.Option.{Option, some}
 use mathlib.Core.List.{List, [], _∷_, List·Memᴰ}
 use mathlib.Core.Logic.{_↔_}
 use Prim.Native.Nat.{ℕ, suc, _<_}
 use lib.Dec.{ltb}
 use lib.ListN.{length, drop}
 use Rattle.bits.specs.Rows.{Ascending}
-use Rattle.rules.specs.Calls.{Column, cell, Call, create, begin, query, read, update, delete, insert, commit, tidy, abort, Answer, refused, ok, value, listed}
-use Rattle.rules.specs.Plain.{Wish, Event, Visitor, away, sitting, Observer, visitor, columnAt, columnNow, holding, countWished, wishesOf, isWished, touches, movedBy, accepts, watches}
+use Rattle.rules.specs.Calls.{cell, Call, create, begin, query, read, update, delete, insert, commit, tidy, abort, Answer}
+use Rattle.rules.specs.Calls.{refused, ok, value, listed}
+use Rattle.rules.specs.Plain.{Wish, Event, Visitor, away, sitting, Observer, visitor, columnAt, columnNow, holding, countWished}
+use Rattle.rules.specs.Plain.{wishesOf, isWished, touches, movedBy, accepts, watches}
 
 -- a call that answers numbers only: where it is accepted, they are these
 abbrev pub Numbers : List ℕ → Answer → Type 0
@@ -68,7 +70,8 @@ Overtaken h ws = (r : ℕ) × (e : Event) × (isWished ws r ≡ true) × List·M
 -- conflict exactly if, since the opening, an accepted commit listed or an accepted tidy moved one of its rows."
 pub record RightCommit (o : Observer) (i : ℕ) (a : Answer) : Type 0 where
   pub numbers : Numbers (suc (length (o .events)) ∷ length (columnNow (accepts o (commit i))) ∷ []) a
-  pub conflict : (k : ℕ) (w : Wish) (ws : List Wish) → visitor o i ≡ sitting k (w ∷ ws) → (a ≡ refused 12) ↔ Overtaken (drop k (o .events)) (w ∷ ws)
+  pub conflict : (k : ℕ) (w : Wish) (ws : List Wish) → visitor o i ≡ sitting k (w ∷ ws)
+      → (a ≡ refused 12) ↔ Overtaken (drop k (o .events)) (w ∷ ws)
 
 -- tidy: one more than the events so far, and how many rows it moves
 abbrev pub tidiesAt : Observer → ℕ → Visitor → List ℕ

@@ -12,7 +12,8 @@ use Rattle.bits.specs.Rows.{rowsBelow}
 use Rattle.rules.specs.Limits.{maxRows}
 use Rattle.rules.specs.State.{Change, Record, State, chain}
 use Rattle.rules.specs.Versions.{newest}
-use Rattle.rules.specs.Calls.{Column, Call, create, begin, query, read, update, delete, insert, commit, tidy, abort, Answer, refused, ok, value, listed}
+use Rattle.rules.specs.Calls.{Column, Call, create, begin, query, read, update, insert, commit, tidy, abort, Answer}
+use Rattle.rules.specs.Calls.{refused, ok, value, listed}
 use Rattle.rules.specs.Step.{created, step, run}
 
 -- `column 4 1 2 0 1`
@@ -29,7 +30,8 @@ asks i v = query i v 8 32
 -- the run of document 01 from `column` on, a line each
 unfoldable pub printed : List Call
 printed =
-    create 4 firstColumn ∷ begin 0 ∷ begin 1 ∷ update 0 0 3 ∷ commit 0 ∷ asks 1 1 ∷ begin 0 ∷ asks 0 1 ∷ tidy 0 3 ∷ asks 0 3 ∷ update 1 0 2 ∷ commit 1
+    create 4 firstColumn ∷ begin 0 ∷ begin 1 ∷ update 0 0 3 ∷ commit 0 ∷ asks 1 1 ∷ begin 0 ∷ asks 0 1 ∷ tidy 0 3 ∷ asks 0 3
+    ∷ update 1 0 2 ∷ commit 1
     ∷ abort 1 ∷ []
 
 -- "Continuing: P6 `begin 1` starts at 2; `update 1 0 2` and `commit 1` .. P7 `begin 0` there"
@@ -47,7 +49,8 @@ printed₉ = create 1 [] ∷ begin 0 ∷ asks 0 0 ∷ []
 -- Not in the document: two tidies empty the set of row 0, and a commit builds on it
 unfoldable pub emptying : List Call
 emptying =
-    begin 0 ∷ update 0 0 3 ∷ commit 0 ∷ begin 0 ∷ tidy 0 3 ∷ abort 0 ∷ begin 0 ∷ tidy 0 1 ∷ abort 0 ∷ begin 0 ∷ update 0 0 2 ∷ commit 0 ∷ begin 0
+    begin 0 ∷ update 0 0 3 ∷ commit 0 ∷ begin 0 ∷ tidy 0 3 ∷ abort 0 ∷ begin 0 ∷ tidy 0 1 ∷ abort 0 ∷ begin 0 ∷ update 0 0 2
+    ∷ commit 0 ∷ begin 0
     ∷ asks 0 1 ∷ []
 
 -- row 0 goes to 3 and back to 1, so that its set is empty again

@@ -1,14 +1,15 @@
 -- The plain observer of demand 3. It sees the calls and their answers, and nothing else: it has no log, no flip set, no
 -- version and no list, and shares no function on lists with the rules. Assumes nothing.
-use mathlib.Core.Bool.{Bool, true, false, _||_, cond}
+use mathlib.Core.Bool.{Bool, false, _||_, cond}
 use mathlib.Core.Option.{Option, none, some}
 use mathlib.Core.List.{List, [], _∷_, _++_}
 use Prim.Native.Nat.{ℕ, suc, _+_}
 use lib.Dec.{eqb}
-use lib.ListN.{length, getD, set, take, drop, replicate}
+use lib.ListN.{length, getD, set, take, replicate}
 use Rattle.bits.specs.Bit.{xorb}
 use Rattle.bits.specs.Rows.{rowsBelow}
-use Rattle.rules.specs.Calls.{Column, cell, holds, Call, create, begin, query, read, update, delete, insert, commit, tidy, abort, Answer, refused, ok, value, listed}
+use Rattle.rules.specs.Calls.{Column, cell, holds, Call, create, begin, query, read, update, delete, insert, commit, tidy, abort}
+use Rattle.rules.specs.Calls.{Answer, refused, ok, value, listed}
 
 -- what a session asked for: that a row hold a value or be absent, or that a new row hold a value
 pub data Wish : Type 0 where

@@ -1,9 +1,9 @@
 -- What the index holds, free of any table: the log, the versions of each value, the sessions, and the clock's counts.
 -- Assumes nothing.
-use mathlib.Core.Bool.{Bool, true, false, _||_, cond}
-use mathlib.Core.Option.{Option, none, some}
-use mathlib.Core.List.{List, [], _∷_}
-use Prim.Native.Nat.{ℕ, zero, suc}
+use mathlib.Core.Bool.{Bool, true, false}
+use mathlib.Core.Option.{Option}
+use mathlib.Core.List.{List, []}
+use Prim.Native.Nat.{ℕ, zero}
 use lib.ListN.{getD}
 
 -- "a change is a row and a flip set (a set of values)": bit v of `flips` is set where v is in the set

@@ -1,6 +1,5 @@
 -- What an accepted call does and answers, one call whole, and a run of calls with its transcript.
 -- Assumes nothing.
-use mathlib.Core.Bool.{Bool, true, false, cond}
 use mathlib.Core.Option.{Option, none, some}
 use mathlib.Core.List.{List, [], _∷_, _++_}
 use Prim.Native.Nat.{ℕ, suc, _+_}
@@ -8,13 +7,15 @@ use lib.Dec.{ltb}
 use lib.ListN.{length, set, replicate}
 use Rattle.bits.specs.Tab.{tab}
 use Rattle.rules.specs.Limits.{maxSessions}
-use Rattle.rules.specs.State.{Record, commits, tidies, Version, Chain, Entry, alter, add, Session, free, opened, State, chain, session, startOf, rowsOf, listOf}
+use Rattle.rules.specs.State.{Record, commits, tidies, Version, Chain, Entry, add, Session, free, opened, State, chain}
+use Rattle.rules.specs.State.{session, startOf, rowsOf, listOf}
 use Rattle.rules.specs.Log.{stampOf, grown}
 use Rattle.rules.specs.Versions.{queried, queriedRows, flipCount}
 use Rattle.rules.specs.Lists.{put, inserts}
 use Rattle.rules.specs.Commit.{commitChanges}
 use Rattle.rules.specs.Tidy.{moved, tidyChanges}
-use Rattle.rules.specs.Calls.{Column, cell, holds, Call, create, begin, query, read, update, delete, insert, commit, tidy, abort, Answer, refused, ok, value, listed}
+use Rattle.rules.specs.Calls.{Column, cell, holds, Call, create, begin, query, read, update, delete, insert, commit, tidy, abort}
+use Rattle.rules.specs.Calls.{Answer, refused, ok, value, listed}
 use Rattle.rules.specs.Refusals.{readIn, refusal}
 
 -- "It makes slots 0 to C-1 with stamp 0, one per value, no links"

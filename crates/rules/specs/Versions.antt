@@ -1,10 +1,10 @@
 -- What a session sees: the version of a value at its start, the query, the flip count, and the read of a row.
 -- Assumes nothing.
-use mathlib.Core.Bool.{Bool, true, false, cond}
+use mathlib.Core.Bool.{Bool, false, cond}
 use mathlib.Core.Option.{Option}
 use mathlib.Core.List.{List, [], _∷_}
 use Prim.Native.Nat.{ℕ}
-use lib.Dec.{leb, ltb}
+use lib.Dec.{leb}
 use Rattle.bits.specs.Bit.{xorb, bit}
 use Rattle.bits.specs.Rows.{rowsBelow, countBelow, smallestBelow}
 use Rattle.rules.specs.Limits.{maxRows}

@@ -1,15 +1,13 @@
 -- `answers::not_put_back` meets its contract.
 -- Assumes nothing.
-use Rattle.calls.proofs.AnswerLaws.{relisted-none}
 use borrow.Author.Needs.{needs}
+use Rattle.calls.specs.Seats.{relistsNone}
 use Rattle.calls.proofs.answers.not_put_back.Statement.{statement}
 use Rattle.calls.proofs.answers.not_put_back.Tie as tie
 
-free-session-requires : tie.Need-free-session-requires
-free-session-requires c κs = search needs
-
 returns : tie.Need-returns
-returns c = search relisted-none
+unfolding relistsNone
+returns c = rw (c .free-session .ensures)
 
 pub not-put-back-spec : {M : Type 1} → statement M
-not-put-back-spec = tie.close (tie.spec free-session-requires returns)
+not-put-back-spec = tie.close (tie.spec (λ c κs. search needs) returns)

@@ -5,9 +5,6 @@ use borrow.Author.Needs.{needs}
 use Rattle.calls.proofs.enter.placed.Statement.{statement}
 use Rattle.calls.proofs.enter.placed.Tie as tie
 
-room-requires : tie.Need-room-requires
-room-requires c κs = search needs
-
 returns : tie.Need-returns
 returns c = search no-room
 
@@ -27,6 +24,4 @@ returns-5 : tie.Need-returns-5
 returns-5 c = search (first-decides, in-table)
 
 pub placed-spec : {M : Type 1} → statement M
-placed-spec =
-    tie.close
-    (tie.spec room-requires returns returns-2 numbers-fit-requires returns-3 returns-4 returns-5)
+placed-spec = tie.close (tie.spec (λ c κs. search needs) returns returns-2 numbers-fit-requires returns-3 returns-4 returns-5)

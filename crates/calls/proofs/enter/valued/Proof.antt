@@ -5,15 +5,6 @@ use borrow.Author.Needs.{needs}
 use Rattle.calls.proofs.enter.valued.Statement.{statement}
 use Rattle.calls.proofs.enter.valued.Tie as tie
 
-opened-requires : tie.Need-opened-requires
-opened-requires c κs = search needs
-
-enum-told : tie.Need-enum-told
-enum-told c = search needs
-
-enum-told-2 : tie.Need-enum-told-2
-enum-told-2 c = search needs
-
 returns : tie.Need-returns
 returns c = search valued-stays
 
@@ -28,12 +19,4 @@ returns-3 c = search valued-passes
 
 pub valued-spec : {M : Type 1} → statement M
 valued-spec =
-    tie.close
-    (tie.spec
-    opened-requires
-    enum-told
-    enum-told-2
-    returns
-    clock-of-requires
-    returns-2
-    returns-3)
+    tie.close (tie.spec (λ c κs. search needs) (λ c. search needs) (λ c. search needs) returns clock-of-requires returns-2 returns-3)

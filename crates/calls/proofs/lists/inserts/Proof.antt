@@ -19,29 +19,12 @@ Inv-loop s n k₀ i₀ k i = (i ≤ n) × (k ≤ i) × (k ≡ length (inserts (t
 abbrev μ-loop : tie.MeasureT-loop
 μ-loop s n k₀ i₀ k i = n - i
 
-wide-requires : tie.Need-wide-requires Inv-loop μ-loop
-wide-requires c κs = search needs
-
 loop-holds : tie.Need-loop-holds Inv-loop μ-loop
 loop-holds c = (omega arith, omega arith, search counted-none)
 
-mul-if1 : tie.Need-mul-if1 Inv-loop μ-loop
-mul-if1 c = omega arith
-
-element-copy-out-if1 : tie.Need-element-copy-out-if1 Inv-loop μ-loop
-element-copy-out-if1 c = search needs
-
-add-k : tie.Need-add-k Inv-loop μ-loop
-add-k c = omega arith
-
-add-i : tie.Need-add-i Inv-loop μ-loop
-add-i c = omega arith
-
-loop-less : tie.Need-loop-less Inv-loop μ-loop
-loop-less c = omega arith
-
 loop-again : tie.Need-loop-again Inv-loop μ-loop
-loop-again c = ⊎-elim (λ w. (omega arith, omega arith, search counted-new)) (λ w. (omega arith, omega arith, search counted-row)) (c .if1 .came)
+loop-again c =
+    ⊎-elim (λ w. (omega arith, omega arith, search counted-new)) (λ w. (omega arith, omega arith, search counted-row)) (c .if1 .came)
 
 returns : tie.Need-returns Inv-loop μ-loop
 returns c = search counted-all
@@ -49,15 +32,5 @@ returns c = search counted-all
 pub inserts-spec : {M : Type 1} → statement M
 inserts-spec =
     tie.close
-    (tie.spec
-    Inv-loop
-    μ-loop
-    wide-requires
-    loop-holds
-    mul-if1
-    element-copy-out-if1
-    add-k
-    add-i
-    loop-less
-    loop-again
-    returns)
+    (tie.spec Inv-loop μ-loop (λ c κs. search needs) loop-holds (λ c. omega arith) (λ c. search needs) (λ c. omega arith)
+    (λ c. omega arith) (λ c. omega arith) loop-again returns)

@@ -16,29 +16,11 @@ Inv-loop row s n i₀ i = (i ≤ n) × (smallestBelow (hasRow s (row .0)) i ≡ 
 abbrev μ-loop : tie.MeasureT-loop
 μ-loop row s n i₀ i = n - i
 
-wide-requires : tie.Need-wide-requires Inv-loop μ-loop
-wide-requires c κs = search needs
-
 loop-holds : tie.Need-loop-holds Inv-loop μ-loop
 loop-holds c = (omega arith, search spot-start)
 
-mul-long : tie.Need-mul-long Inv-loop μ-loop
-mul-long c = omega arith
-
-element-copy-out-long : tie.Need-element-copy-out-long Inv-loop μ-loop
-element-copy-out-long c = search needs
-
-long-requires : tie.Need-long-requires Inv-loop μ-loop
-long-requires c κs = search needs
-
 returns : tie.Need-returns Inv-loop μ-loop
 returns c = search spot-here
-
-add-i : tie.Need-add-i Inv-loop μ-loop
-add-i c = omega arith
-
-loop-less : tie.Need-loop-less Inv-loop μ-loop
-loop-less c = omega arith
 
 loop-again : tie.Need-loop-again Inv-loop μ-loop
 loop-again c = (omega arith, search spot-past)
@@ -49,16 +31,5 @@ returns-2 c = search spot-none
 pub spot-of-spec : {M : Type 1} → statement M
 spot-of-spec =
     tie.close
-    (tie.spec
-    Inv-loop
-    μ-loop
-    wide-requires
-    loop-holds
-    mul-long
-    element-copy-out-long
-    long-requires
-    returns
-    add-i
-    loop-less
-    loop-again
-    returns-2)
+    (tie.spec Inv-loop μ-loop (λ c κs. search needs) loop-holds (λ c. omega arith) (λ c. search needs) (λ c κs. search needs) returns
+    (λ c. omega arith) (λ c. omega arith) loop-again returns-2)

@@ -8,11 +8,8 @@ use Rattle.calls.proofs.lists.target_of.Tie as tie
 returns : tie.Need-returns
 returns c = search target-absent
 
-wide-byte-requires : tie.Need-wide-byte-requires
-wide-byte-requires c κs = search needs
-
 returns-2 : tie.Need-returns-2
 returns-2 c = search target-holds
 
 pub target-of-spec : {M : Type 1} → statement M
-target-of-spec = tie.close (tie.spec returns wide-byte-requires returns-2)
+target-of-spec = tie.close (tie.spec returns (λ c κs. search needs) returns-2)

@@ -8,11 +8,8 @@ use Rattle.calls.proofs.narrow.narrow.Tie as tie
 returns : tie.Need-returns
 returns c = search narrow-past
 
-cast-result : tie.Need-cast-result
-cast-result c = search needs
-
 returns-2 : tie.Need-returns-2
 returns-2 c = search narrow-here
 
 pub narrow-spec : {M : Type 1} → statement M
-narrow-spec = tie.close (tie.spec returns cast-result returns-2)
+narrow-spec = tie.close (tie.spec returns (λ c. search needs) returns-2)

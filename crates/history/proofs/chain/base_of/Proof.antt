@@ -5,12 +5,6 @@ use borrow.Author.Needs.{needs}
 use Rattle.history.proofs.chain.base_of.Statement.{statement}
 use Rattle.history.proofs.chain.base_of.Tie as tie
 
-version-of-requires : tie.Need-version-of-requires
-version-of-requires c κs = search needs
-
-slot-stamp-requires : tie.Need-slot-stamp-requires
-slot-stamp-requires c κs = search needs
-
 end-at-requires : tie.Need-end-at-requires
 end-at-requires c κs = (search stamp-low, search needs)
 
@@ -18,4 +12,4 @@ returns : tie.Need-returns
 returns c = (search needs, search base-is)
 
 pub base-of-spec : {M : Type 1} → statement M
-base-of-spec = tie.close (tie.spec version-of-requires slot-stamp-requires end-at-requires returns)
+base-of-spec = tie.close (tie.spec (λ c κs. search needs) (λ c κs. search needs) end-at-requires returns)

@@ -16,23 +16,8 @@ Inv-loop changes from row e found₀ p₀ found p = (from ≤ p) × (p ≤ from 
 abbrev μ-loop : tie.MeasureT-loop
 μ-loop changes from row e found₀ p₀ found p = from + 64 - p
 
-add-e : tie.Need-add-e Inv-loop μ-loop
-add-e c = omega arith
-
 loop-holds : tie.Need-loop-holds Inv-loop μ-loop
 loop-holds c = (omega arith, omega arith, search names-start)
-
-mul-found : tie.Need-mul-found Inv-loop μ-loop
-mul-found c = omega arith
-
-shared-slice-read-found : tie.Need-shared-slice-read-found Inv-loop μ-loop
-shared-slice-read-found c = omega arith
-
-add-p : tie.Need-add-p Inv-loop μ-loop
-add-p c = omega arith
-
-loop-less : tie.Need-loop-less Inv-loop μ-loop
-loop-less c = omega arith
 
 loop-again : tie.Need-loop-again Inv-loop μ-loop
 loop-again c = (omega arith, omega arith, search names-fold)
@@ -43,14 +28,5 @@ returns c = search names-all
 pub block-names-spec : {M : Type 1} → statement M
 block-names-spec =
     tie.close
-    (tie.spec
-    Inv-loop
-    μ-loop
-    add-e
-    loop-holds
-    mul-found
-    shared-slice-read-found
-    add-p
-    loop-less
-    loop-again
-    returns)
+    (tie.spec Inv-loop μ-loop (λ c. omega arith) loop-holds (λ c. omega arith) (λ c. omega arith) (λ c. omega arith) (λ c. omega arith)
+    loop-again returns)

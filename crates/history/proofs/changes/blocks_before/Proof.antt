@@ -18,30 +18,10 @@ abbrev μ-loop : tie.MeasureT-loop
 loop-holds : tie.Need-loop-holds Inv-loop μ-loop
 loop-holds c = (omega arith, refl)
 
-block-names-requires : tie.Need-block-names-requires Inv-loop μ-loop
-block-names-requires c κs = omega arith
-
-returns : tie.Need-returns Inv-loop μ-loop
-returns c = search needs
-
-loop-less : tie.Need-loop-less Inv-loop μ-loop
-loop-less c = omega arith
-
 loop-again : tie.Need-loop-again Inv-loop μ-loop
 loop-again c = (omega arith, search block-past)
-
-returns-2 : tie.Need-returns-2 Inv-loop μ-loop
-returns-2 c = search needs
 
 pub blocks-before-spec : {M : Type 1} → statement M
 blocks-before-spec =
     tie.close
-    (tie.spec
-    Inv-loop
-    μ-loop
-    loop-holds
-    block-names-requires
-    returns
-    loop-less
-    loop-again
-    returns-2)
+    (tie.spec Inv-loop μ-loop loop-holds (λ c κs. omega arith) (λ c. search needs) (λ c. omega arith) loop-again (λ c. search needs))

@@ -5,14 +5,8 @@ use borrow.Author.Needs.{needs}
 use Rattle.history.proofs.changes.last_naming.Statement.{statement}
 use Rattle.history.proofs.changes.last_naming.Tie as tie
 
-last-place-requires : tie.Need-last-place-requires
-last-place-requires c κs = search needs
-
 returns : tie.Need-returns
 returns c = search last-none
-
-sub-change-set : tie.Need-sub-change-set
-sub-change-set c = search needs
 
 change-set-requires : tie.Need-change-set-requires
 change-set-requires c κs = (search place-fits, search needs)
@@ -21,5 +15,4 @@ returns-2 : tie.Need-returns-2
 returns-2 c = search last-some
 
 pub last-naming-spec : {M : Type 1} → statement M
-last-naming-spec =
-    tie.close (tie.spec last-place-requires returns sub-change-set change-set-requires returns-2)
+last-naming-spec = tie.close (tie.spec (λ c κs. search needs) returns (λ c. search needs) change-set-requires returns-2)

@@ -15,29 +15,8 @@ Inv-loop changes to row e₀ e = (e ≤ to) × (lastPlace changes row to ≡ las
 abbrev μ-loop : tie.MeasureT-loop
 μ-loop changes to row e₀ e = e
 
-blocks-before-requires : tie.Need-blocks-before-requires Inv-loop μ-loop
-blocks-before-requires c κs = omega arith
-
-loop-holds : tie.Need-loop-holds Inv-loop μ-loop
-loop-holds c = search needs
-
-sub-if1 : tie.Need-sub-if1 Inv-loop μ-loop
-sub-if1 c = omega arith
-
-mul-if1 : tie.Need-mul-if1 Inv-loop μ-loop
-mul-if1 c = omega arith
-
-shared-slice-read-if1 : tie.Need-shared-slice-read-if1 Inv-loop μ-loop
-shared-slice-read-if1 c = omega arith
-
 returns : tie.Need-returns Inv-loop μ-loop
 returns c = search place-here
-
-sub-e : tie.Need-sub-e Inv-loop μ-loop
-sub-e c = omega arith
-
-loop-less : tie.Need-loop-less Inv-loop μ-loop
-loop-less c = omega arith
 
 loop-again : tie.Need-loop-again Inv-loop μ-loop
 loop-again c = (omega arith, search place-past)
@@ -48,16 +27,5 @@ returns-2 c = search place-none
 pub last-place-spec : {M : Type 1} → statement M
 last-place-spec =
     tie.close
-    (tie.spec
-    Inv-loop
-    μ-loop
-    blocks-before-requires
-    loop-holds
-    sub-if1
-    mul-if1
-    shared-slice-read-if1
-    returns
-    sub-e
-    loop-less
-    loop-again
-    returns-2)
+    (tie.spec Inv-loop μ-loop (λ c κs. omega arith) (λ c. search needs) (λ c. omega arith) (λ c. omega arith) (λ c. omega arith) returns
+    (λ c. omega arith) (λ c. omega arith) loop-again returns-2)

@@ -6,7 +6,7 @@ use native.Mathlib.Omega.{arith}
 use borrow.Author.Needs.{needs}
 use Rattle.bits.specs.Vec.{vec}
 use Rattle.history.specs.Flips.{flippedIn}
-use Rattle.history.proofs.FlipLaws.{mask-none, mark-row, mask-more, mask-all}
+use Rattle.history.proofs.LastLaws.{mask-none, mark-row, mask-more, mask-all}
 use Rattle.history.proofs.mask.flips.Statement.{statement}
 use Rattle.history.proofs.mask.flips.Tie as tie
 
@@ -22,12 +22,6 @@ loop-holds c = (omega arith, omega arith, mask-none _ _ 0 _ 32)
 mark-requires : tie.Need-mark-requires Inv-loop μ-loop
 mark-requires c κs = (search needs, search needs, search needs, search mark-row)
 
-add-p : tie.Need-add-p Inv-loop μ-loop
-add-p c = omega arith
-
-loop-less : tie.Need-loop-less Inv-loop μ-loop
-loop-less c = omega arith
-
 loop-again : tie.Need-loop-again Inv-loop μ-loop
 loop-again c = (omega arith, omega arith, search mask-more)
 
@@ -35,6 +29,4 @@ returns : tie.Need-returns Inv-loop μ-loop
 returns c = search mask-all
 
 pub flips-spec : {M : Type 1} → statement M
-flips-spec =
-    tie.close
-    (tie.spec Inv-loop μ-loop loop-holds mark-requires add-p loop-less loop-again returns)
+flips-spec = tie.close (tie.spec Inv-loop μ-loop loop-holds mark-requires (λ c. omega arith) (λ c. omega arith) loop-again returns)

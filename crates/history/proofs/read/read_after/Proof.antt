@@ -25,12 +25,6 @@ row-has-requires c κs = (search needs, search value-based)
 returns : tie.Need-returns Inv-loop μ-loop
 returns c = search read-here
 
-add-v : tie.Need-add-v Inv-loop μ-loop
-add-v c = omega arith
-
-loop-less : tie.Need-loop-less Inv-loop μ-loop
-loop-less c = omega arith
-
 loop-again : tie.Need-loop-again Inv-loop μ-loop
 loop-again c = (omega arith, search read-past)
 
@@ -39,14 +33,4 @@ returns-2 c = search read-none
 
 pub read-after-spec : {M : Type 1} → statement M
 read-after-spec =
-    tie.close
-    (tie.spec
-    Inv-loop
-    μ-loop
-    loop-holds
-    row-has-requires
-    returns
-    add-v
-    loop-less
-    loop-again
-    returns-2)
+    tie.close (tie.spec Inv-loop μ-loop loop-holds row-has-requires returns (λ c. omega arith) (λ c. omega arith) loop-again returns-2)
