@@ -26,57 +26,6 @@ Inv-records log changes s n stamp found₀ k₀ found k = (found ≡ false) × (
 abbrev μ-records : tie.MeasureT-records
 μ-records log changes s n stamp found₀ k₀ found k = stamp - k
 
-none-named-requires : tie.Need-none-named-requires Inv-loop μ-loop Inv-records μ-records
-none-named-requires c κs = search needs
-
-returns : tie.Need-returns Inv-loop μ-loop Inv-records μ-records
-returns c = search (none-clash, c .before .none-named .ensures)
-
-wide-requires : tie.Need-wide-requires Inv-loop μ-loop Inv-records μ-records
-wide-requires c κs = search needs
-
-records-holds : tie.Need-records-holds Inv-loop μ-loop Inv-records μ-records
-records-holds c = (refl, search records-start)
-
-end-at-requires : tie.Need-end-at-requires Inv-loop μ-loop Inv-records μ-records
-end-at-requires c κs = search needs
-
-add-t16 : tie.Need-add-t16 Inv-loop μ-loop Inv-records μ-records
-add-t16 c = omega arith
-
-end-at-requires-2 : tie.Need-end-at-requires-2 Inv-loop μ-loop Inv-records μ-records
-end-at-requires-2 c κs = search needs
-
-loop-holds : tie.Need-loop-holds Inv-loop μ-loop Inv-records μ-records
-loop-holds c = (omega arith, search needs, search entries-start)
-
-entry-named-requires : tie.Need-entry-named-requires Inv-loop μ-loop Inv-records μ-records
-entry-named-requires c κs = (search needs, search end-low, search needs)
-
-add-i : tie.Need-add-i Inv-loop μ-loop Inv-records μ-records
-add-i c = omega arith
-
-loop-less : tie.Need-loop-less Inv-loop μ-loop Inv-records μ-records
-loop-less c = omega arith
-
-loop-again : tie.Need-loop-again Inv-loop μ-loop Inv-records μ-records
-loop-again c = (omega arith, search needs, search entries-on)
-
-add-k : tie.Need-add-k Inv-loop μ-loop Inv-records μ-records
-add-k c = omega arith
-
-records-less : tie.Need-records-less Inv-loop μ-loop Inv-records μ-records
-records-less c = omega arith
-
-records-again : tie.Need-records-again Inv-loop μ-loop Inv-records μ-records
-records-again c = (search needs, search records-on)
-
-returns-2 : tie.Need-returns-2 Inv-loop μ-loop Inv-records μ-records
-returns-2 c = search records-ended
-
-returns-3 : tie.Need-returns-3 Inv-loop μ-loop Inv-records μ-records
-returns-3 c = search records-met
-
 pub clash-spec : {M : Type 1} → statement M
 clash-spec =
     tie.close
@@ -85,20 +34,20 @@ clash-spec =
     μ-loop
     Inv-records
     μ-records
-    none-named-requires
-    returns
-    wide-requires
-    records-holds
-    end-at-requires
-    add-t16
-    end-at-requires-2
-    loop-holds
-    entry-named-requires
-    add-i
-    loop-less
-    loop-again
-    add-k
-    records-less
-    records-again
-    returns-2
-    returns-3)
+    (λ c κs. search needs)
+    (λ c. search (none-clash, c .before .none-named .ensures))
+    (λ c κs. search needs)
+    (λ c. (refl, search records-start))
+    (λ c κs. search needs)
+    (λ c. omega arith)
+    (λ c κs. search needs)
+    (λ c. (omega arith, search needs, search entries-start))
+    (λ c κs. (search needs, search end-low, search needs))
+    (λ c. omega arith)
+    (λ c. omega arith)
+    (λ c. (omega arith, search needs, search entries-on))
+    (λ c. omega arith)
+    (λ c. omega arith)
+    (λ c. (search needs, search records-on))
+    (λ c. search records-ended)
+    (λ c. search records-met))

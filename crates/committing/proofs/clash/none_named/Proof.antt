@@ -6,27 +6,6 @@ use Rattle.committing.proofs.ClashLaws.{unsaid, last-low, whole-unnamed
 use Rattle.committing.proofs.clash.none_named.Statement.{statement}
 use Rattle.committing.proofs.clash.none_named.Tie as tie
 
-returns : tie.Need-returns
-returns c = unsaid _
-
-ends-rise-requires : tie.Need-ends-rise-requires
-ends-rise-requires c κs = search needs
-
-returns-2 : tie.Need-returns-2
-returns-2 c = unsaid _
-
-end-at-requires : tie.Need-end-at-requires
-end-at-requires c κs = search needs
-
-end-at-requires-2 : tie.Need-end-at-requires-2
-end-at-requires-2 c κs = search needs
-
-wide-requires : tie.Need-wide-requires
-wide-requires c κs = search needs
-
-entries-named-requires : tie.Need-entries-named-requires
-entries-named-requires c κs = (search needs, search last-low, search needs)
-
 returns-3 : tie.Need-returns-3
 returns-3 c =
     whole-unnamed _ _ _ _
@@ -39,11 +18,11 @@ pub none-named-spec : {M : Type 1} → statement M
 none-named-spec =
     tie.close
     (tie.spec
-    returns
-    ends-rise-requires
-    returns-2
-    end-at-requires
-    end-at-requires-2
-    wide-requires
-    entries-named-requires
+    (λ c. unsaid _)
+    (λ c κs. search needs)
+    (λ c. unsaid _)
+    (λ c κs. search needs)
+    (λ c κs. search needs)
+    (λ c κs. search needs)
+    (λ c κs. (search needs, search last-low, search needs))
     returns-3)

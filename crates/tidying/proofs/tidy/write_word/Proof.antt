@@ -20,35 +20,8 @@ bound c = next-lt _ _ _ _ _ _ _ _ _ _ (c .before .before .before .fits .word .fi
 room : (c : tie.In-loop Inv-loop μ-loop) → let a = c .before .before .before .args in Puttable (c .before .loop .changes) (c .before .loop .p) (a .to) (a .v .0) 1
 room c = next-puttable _ _ _ _ _ _ _ _ _ _ (c .before .before .before .fits .word .fits) (c .before .loop .inv) (c .loop-test .taken) (c .before .before .before .pre .0)
 
-loop-holds : tie.Need-loop-holds Inv-loop μ-loop
-loop-holds c = search scan-none
-
-add-k : tie.Need-add-k Inv-loop μ-loop
-add-k c = omega (arith, bound c)
-
-add-row : tie.Need-add-row Inv-loop μ-loop
-add-row c = omega (arith, bound c, c .before .before .before .pre)
-
-put-less-requires : tie.Need-put-less-requires Inv-loop μ-loop
-put-less-requires c κs = room (c .before)
-
-add-k-2 : tie.Need-add-k-2 Inv-loop μ-loop
-add-k-2 c = omega (arith, bound (c .before .before .before .before))
-
-cast-x : tie.Need-cast-x Inv-loop μ-loop
-cast-x c = omega (arith, bound (c .before .before .before .before))
-
-shr-x : tie.Need-shr-x Inv-loop μ-loop
-shr-x c = omega (arith, bound (c .before .before .before .before))
-
-loop-less : tie.Need-loop-less Inv-loop μ-loop
-loop-less c = omega (arith, bound (c .before .before .before .before))
-
 loop-again : tie.Need-loop-again Inv-loop μ-loop
 loop-again c = let b = c .before .before .before .before in scan-more _ _ _ _ _ _ _ _ _ _ (b .before .before .before .fits .word .fits) (b .before .loop .inv) (b .loop-test .taken) _ _ (b .before .before .before .pre .0) (c .before .before .put-less .ensures)
-
-same-length : tie.Need-same-length Inv-loop μ-loop
-same-length c = put-length _ _ _ _ _ _ _ (c .before .loop .inv .put)
 
 returns : tie.Need-returns Inv-loop μ-loop
 returns c = scan-end _ _ _ _ _ _ _ _ _ _ (c .before .before .before .fits .word .fits) (c .before .loop .inv) (c .loop-test .left)
@@ -59,14 +32,14 @@ write-word-spec =
     (tie.spec
     Inv-loop
     μ-loop
-    loop-holds
-    add-k
-    add-row
-    put-less-requires
-    add-k-2
-    cast-x
-    shr-x
-    loop-less
+    (λ c. search scan-none)
+    (λ c. omega (arith, bound c))
+    (λ c. omega (arith, bound c, c .before .before .before .pre))
+    (λ c κs. room (c .before))
+    (λ c. omega (arith, bound (c .before .before .before .before)))
+    (λ c. omega (arith, bound (c .before .before .before .before)))
+    (λ c. omega (arith, bound (c .before .before .before .before)))
+    (λ c. omega (arith, bound (c .before .before .before .before)))
     loop-again
-    same-length
+    (λ c. put-length _ _ _ _ _ _ _ (c .before .loop .inv .put))
     returns)
