@@ -1,7 +1,7 @@
 -- The search for a clash: first the later changes as one stretch, then step by step the records from one on, and in each the entries
 -- from one on.
 -- Assumes nothing.
-use mathlib.Core.Path.{_≡_, refl, sym, ap, ap₂, _∙_}
+use mathlib.Core.Path.{_≡_, sym, ap, ap₂, _∙_}
 use mathlib.Core.Bool.{Bool, true, false, not, _||_, cond, or-assoc, or-false, true≢false}
 use mathlib.Core.List.{List, _++_}
 use mathlib.Core.Logic.{_⊎_, inl, inr, ⊎-elim}
@@ -79,7 +79,8 @@ recordsHit log changes x k last = someOf (λ (r : Record). hitsList (entries x) 
 
 -- ---- the entries, for one record
 
-pub entries-on : (cs : List Change) (x : Session) (i n : ℕ) (w b : Bool) → w ≡ entriesHit cs x i n → i < n → b ≡ hits cs (entryAt x i) → b ≡ false
+pub entries-on : (cs : List Change) (x : Session) (i n : ℕ) (w b : Bool) → w ≡ entriesHit cs x i n → i < n → b ≡ hits cs (entryAt x i)
+    → b ≡ false
     → w ≡ entriesHit cs x (i + 1) n
 entries-on cs x i n w b e l h z = e ∙ some-on (hits cs) (entryAt x) i n l (sym h ∙ z)
 
@@ -93,7 +94,8 @@ module _ (log changes : List ℕ) (x : Session) where
 
   -- ---- the records
 
-  pub records-start : (last : ℕ) → conflicts (tab (recordAt log changes) last) (x .start .0) (entries x) ≡ recordsHit log changes x (x .start .0) last
+  pub records-start : (last : ℕ) → conflicts (tab (recordAt log changes) last) (x .start .0) (entries x) ≡ recordsHit log changes x
+      (x .start .0) last
   unfolding above
   records-start last =
       conflict-by-records (tab (recordAt log changes) last) (x .start .0) (entries x)
@@ -112,12 +114,14 @@ module _ (log changes : List ℕ) (x : Session) where
       -- the entries of a record have ended, and the records go on
       pub records-on : n ≤ i → w ≡ recordsHit log changes x (k + 1) last
       records-on h =
-          e ∙ some-on (λ (r : Record). hitsList (entries x) (r .changes)) (recordAt log changes) k last l (s ∙ some-none (hits cs) (entryAt x) i n h)
+          e ∙ some-on (λ (r : Record). hitsList (entries x) (r .changes)) (recordAt log changes) k last l
+          (s ∙ some-none (hits cs) (entryAt x) i n h)
 
       -- one is named
       pub records-met : (b : Bool) → i < n → b ≡ hits cs (entryAt x i) → b ≡ true → true ≡ w
       records-met b h q z =
-          sym (e ∙ some-at (λ (r : Record). hitsList (entries x) (r .changes)) (recordAt log changes) k last l (s ∙ some-at (hits cs) (entryAt x) i n h (sym q ∙ z)))
+          sym (e ∙ some-at (λ (r : Record). hitsList (entries x) (r .changes)) (recordAt log changes) k last l
+          (s ∙ some-at (hits cs) (entryAt x) i n h (sym q ∙ z)))
 
 -- ---- the entries, for one stretch
 

@@ -56,7 +56,8 @@ unfolding toggledIn toggled
 toggled-in C m none h w = refl
 toggled-in C m (some a) h w = ap (λ (b : Bool). cond b (flipBit m a) m) (lt-ltb a 32 (omega arith))
 
-rows-alike : (C n : ℕ) (f g : ℕ → Option ℕ → ℕ) (es : List Entry) → EntriesFit C n es → ((r : ℕ) (b : Option ℕ) → Within C b → f r b ≡ g r b) → rowChanges f es ≡ rowChanges g es
+rows-alike : (C n : ℕ) (f g : ℕ → Option ℕ → ℕ) (es : List Entry) → EntriesFit C n es
+    → ((r : ℕ) (b : Option ℕ) → Within C b → f r b ≡ g r b) → rowChanges f es ≡ rowChanges g es
 rows-alike C n f g [] fit h = refl
 rows-alike C n f g (alter r b ∷ es) fit h =
     ap₂ (λ (m : ℕ) (cs : List Change). record { row = r; flips = m } ∷ cs) (h r b (fit .1)) (rows-alike C n f g es (fit .2) h)
@@ -76,7 +77,8 @@ module _ (t : Tables) (n : ℕ) (x : Session) (o : OpenIn t n x) where
 
   entries-fit : EntriesFit (valuesIn (t .clock)) (x .rows .0) (entries x)
   entries-fit =
-      let f : SessionFits (meaning t .values) (meaning t .first) (meaning t .log) (session (meaning t) n) = means-undamaged t (o .good) .sessions-fit n in
+      let f : SessionFits (meaning t .values) (meaning t .first) (meaning t .log) (session (meaning t) n) =
+      means-undamaged t (o .good) .sessions-fit n in
       rw (values-means t, open-session t n x o) at f .fit
 
   -- the new set of a row
@@ -95,11 +97,13 @@ module _ (t : Tables) (n : ℕ) (x : Session) (o : OpenIn t n x) where
       ∙ ap₂ toggled (flipSet-meets t (o .good) s old row) (read-meets t (o .good) s old row))
 
   -- the changes of the commit
-  pub changes-meet : changesMade (t .clock) (t .slots) (t .words) (t .heads) (t .log) (t .changes) x ≡ commitChanges (meaning t) (x .start .0) (entries x)
+  pub changes-meet : changesMade (t .clock) (t .slots) (t .words) (t .heads) (t .log) (t .changes) x ≡ commitChanges (meaning t)
+      (x .start .0) (entries x)
   unfolding commitChanges
   changes-meet =
       ap₂ (λ (cs ds : List Change). cs ++ ds)
-      (rows-alike (valuesIn (t .clock)) (x .rows .0) (newCells (t .slots) (t .words) (t .heads) (t .log) (t .changes) (valuesIn (t .clock)) (x .start .0))
+      (rows-alike (valuesIn (t .clock)) (x .rows .0) (newCells (t .slots) (t .words) (t .heads) (t .log) (t .changes) (valuesIn (t .clock))
+      (x .start .0))
       (newSet (meaning t .values) (meaning t .log) (meaning t .chains) (x .start .0) (x .start .0)) (entries x) entries-fit set-meets)
       (inserts-alike (valuesIn (t .clock)) (x .rows .0) (entries x) (rowsIn (t .clock)) few entries-fit
       ∙ ap (λ (r : ℕ). insertChanges r (inserts (entries x))) (sym (rows-means t)))

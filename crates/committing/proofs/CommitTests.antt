@@ -46,7 +46,8 @@ module _ (clock log changes : List ℕ) (x : cells.Session) where
   abbrev many : ℕ
   many = rowsIn clock + length (inserts (entries x))
 
-  found : (a b c d e : Bool) → eqb (x .count) 0 ≡ a → clashes ≡ b → ltb 2048 many ≡ c → leb 512 (stampIn clock) ≡ d → ltb 2048 (changesIn clock + x .count) ≡ e
+  found : (a b c d e : Bool) → eqb (x .count) 0 ≡ a → clashes ≡ b → ltb 2048 many ≡ c → leb 512 (stampIn clock) ≡ d
+      → ltb 2048 (changesIn clock + x .count) ≡ e
       → chain a b c d e ≡ firstOf (commitTests clock log changes x)
   unfolding commitTests
   found a b c d e p q r s t = sym (rw (p, q, r, s, t))
@@ -83,7 +84,8 @@ module _ (clock log changes : List ℕ) (x : cells.Session) where
         rows-fit = le-ltb 2048 many (omega (arith, rows-are))
 
         pub records-full : 512 ≤ k .stamp .0 → some 16 ≡ firstOf (commitTests clock log changes x)
-        records-full h = found false false false true _ no-empty (clash-is ∙ no-clash) rows-fit (le-leb 512 (stampIn clock) (omega (arith, stamp-is))) refl
+        records-full h = found false false false true _ no-empty (clash-is ∙ no-clash) rows-fit
+            (le-leb 512 (stampIn clock) (omega (arith, stamp-is))) refl
 
         module _ (more : k .stamp .0 < 512) (used : ℕ) (w : used ≡ changesIn clock) where
           records-fit : leb 512 (stampIn clock) ≡ false
@@ -91,11 +93,13 @@ module _ (clock log changes : List ℕ) (x : cells.Session) where
 
           pub changes-pass : 2048 < used + x .count → some 17 ≡ firstOf (commitTests clock log changes x)
           changes-pass h =
-              found false false false false true no-empty (clash-is ∙ no-clash) rows-fit records-fit (lt-ltb 2048 (changesIn clock + x .count) (omega arith))
+              found false false false false true no-empty (clash-is ∙ no-clash) rows-fit records-fit
+              (lt-ltb 2048 (changesIn clock + x .count) (omega arith))
 
           pub commit-passes : used + x .count ≤ 2048 → none ≡ firstOf (commitTests clock log changes x)
           commit-passes h =
-              found false false false false false no-empty (clash-is ∙ no-clash) rows-fit records-fit (le-ltb 2048 (changesIn clock + x .count) (omega arith))
+              found false false false false false no-empty (clash-is ∙ no-clash) rows-fit records-fit
+              (le-ltb 2048 (changesIn clock + x .count) (omega arith))
 
   -- what the tests need
   module _ (asks : CommitAsked clock log changes x) (k : Clock) (is : k ≡ clockIn clock) where
@@ -106,7 +110,14 @@ module _ (clock log changes : List ℕ) (x : cells.Session) where
     pub ready-rows-few : (m : ℕ) → m ≡ length (inserts (entries x)) → Fits w32 (k .rows .0 + m)
     unfolding clockIn
     ready-rows-few m u =
-        omega (arith, ap (λ (d : Clock). d .rows .0) is, asks .rows-few, rows-inserts (λ r o. 0) (entries x), length-entries x, asks .searched .count-low)
+        omega (
+          arith,
+          ap (λ (d : Clock). d .rows .0) is,
+          asks .rows-few,
+          rows-inserts (λ r o. 0) (entries x),
+          length-entries x,
+          asks .searched .count-low,
+        )
 
 -- ---- what the tests leave
 
@@ -134,7 +145,12 @@ module _ (clock slots words heads log changes : List ℕ) (x : cells.Session) (u
   unfolding commitTests
   commit-ready e =
       let f = all-fail (commitTests clock log changes x) e in
-      record { usable = u; stamp-low = leb-false 512 (stampIn clock) (f .1 .1 .1 .0); places-low = ltb-false 2048 (changesIn clock + x .count) (f .1 .1 .1 .1 .0) }
+      record {
+        usable = u;
+        stamp-low = leb-false 512 (stampIn clock) (f .1 .1 .1 .0);
+        places-low =
+            ltb-false 2048 (changesIn clock + x .count) (f .1 .1 .1 .1 .0);
+      }
 
 -- ---- the rules judge alike
 

@@ -21,7 +21,8 @@ use Rattle.tables.proofs.Means.{length-entries}
 use Rattle.history.proofs.Ready.{read-ready}
 use Rattle.calls.specs.declared.answers.Answer.{Answer}
 use Rattle.calls.specs.Stores.{putChanges}
-use Rattle.committing.specs.Commit.{newCells, insertCells, RowsReady, RowsStored, InsertsReady, Recorded, CommitReady, rowsAfter, changesMade, Committed}
+use Rattle.committing.specs.Commit.{newCells, insertCells, RowsReady, RowsStored, InsertsReady, Recorded, CommitReady, rowsAfter}
+use Rattle.committing.specs.Commit.{changesMade, Committed}
 use Rattle.calls.proofs.Entered.{bare}
 use Rattle.calls.proofs.StoreLaws.{length-changes, changes-append}
 
@@ -66,12 +67,17 @@ module _ (clock slots words heads log changes : List ℕ) (x : Session) (ready :
       clock-room = room .clock-room;
       readable = read-ready t (ready .usable .room) (ready .usable .good) (x .start .0) (ready .usable .start-old);
       count-low = ready .usable .count-low;
-      start-before = omega (arith, end-high clock log (parts t (ready .usable .good) .records-fit) (x .start .0) (ready .usable .start-old));
+      start-before = omega (
+        arith,
+        end-high clock log (parts t (ready .usable .good) .records-fit) (x .start .0)
+            (ready .usable .start-old),
+      );
       places-low = omega (arith, ready .places-low);
     }
 
     -- the rows are written up to place e
-    module _ (c : Clock) (k : c ≡ clockIn clock) (changes₁ : List ℕ) (e : ℕ) (s : RowsStored sets x from changes changes₁ (x .count) e) where
+    module _ (c : Clock) (k : c ≡ clockIn clock) (changes₁ : List ℕ) (e : ℕ)
+        (s : RowsStored sets x from changes changes₁ (x .count) e) where
       pub work-inserts : InsertsReady changes₁ x e (c .rows .0)
       unfolding clockIn
       work-inserts = record {
@@ -92,7 +98,8 @@ module _ (clock slots words heads log changes : List ℕ) (x : Session) (ready :
 
   -- its record and its changes
   pub work-done : (c : Clock) (used m : ℕ) (clock′ log′ changes′ : List ℕ) (a : Answer) → c ≡ clockIn clock → used ≡ changesIn clock
-      → m ≡ length (inserts (entries x)) → changes′ ≡ putChanges changes (changesIn clock) (changesMade clock slots words heads log changes x)
+      → m ≡ length (inserts (entries x)) → changes′ ≡ putChanges changes (changesIn clock)
+      (changesMade clock slots words heads log changes x)
       → Recorded clock log (c .rows .0 + m) (used + x .count) clock′ log′ a
       → Committed clock slots words heads log changes x clock′ log′ changes′ a
   unfolding clockIn

@@ -34,7 +34,8 @@ use Rattle.history.proofs.Kept.{set-kept, read-kept}
 use Rattle.calls.specs.declared.answers.Answer.the-variants.{At}
 use Rattle.calls.specs.Said.{numbers}
 use Rattle.calls.specs.Stores.{putChanges}
-use Rattle.committing.specs.Commit.{toggledIn, newCells, insertCells, RowReady, RowsReady, RowsStored, InsertsReady, InsertsStored, Recorded}
+use Rattle.committing.specs.Commit.{toggledIn, newCells, insertCells, RowReady, RowsReady, RowsStored, InsertsReady, InsertsStored}
+use Rattle.committing.specs.Commit.{Recorded}
 use Rattle.calls.proofs.StoreLaws.{changes-before, changes-snoc}
 use Rattle.calls.proofs.ListLaws.{inserts-new, inserts-row, rows-new, rows-row}
 
@@ -68,20 +69,25 @@ module _ (clock slots words heads log changes : List ℕ) (s : ℕ) (c : Clock) 
   unfolding newCells clockIn lastOf
   new-is row to end last held target a r e l h p q z =
       z ∙ ap₂ toggledIn (p ∙ ap₂ toggledIn (ap (λ (y : Last). y .set) l ∙ ap (λ (n : ℕ). lastSet changes 0 n row) e)
-      (read-is slots words heads log changes (c .values .0) s row end last (standingOf held) e l h ∙ ap (λ (d : Clock). readCells slots words heads log changes (d .values .0) s row) k)) q
+      (read-is slots words heads log changes (c .values .0) s row end last (standingOf held) e l h
+      ∙ ap (λ (d : Clock). readCells slots words heads log changes (d .values .0) s row) k)) q
 
 -- ---- the change of one row
 
 pub row-written : (clock slots words heads log changes changes′ : List ℕ) (x : Session) (i p row set : ℕ) → row ≡ getD (x .at) i 0
-    → set ≡ newCells slots words heads log changes (valuesIn clock) (x .start .0) row (targetOf (getD (x .to) i 0)) → changes′ ≡ putChange changes p row set
-    → changes′ ≡ putChange changes p (getD (x .at) i 0) (newCells slots words heads log changes (valuesIn clock) (x .start .0) (getD (x .at) i 0) (targetOf (getD (x .to) i 0)))
+    → set ≡ newCells slots words heads log changes (valuesIn clock) (x .start .0) row (targetOf (getD (x .to) i 0))
+    → changes′ ≡ putChange changes p row set
+    → changes′ ≡ putChange changes p (getD (x .at) i 0) (newCells slots words heads log changes (valuesIn clock) (x .start .0)
+    (getD (x .at) i 0) (targetOf (getD (x .to) i 0)))
 row-written clock slots words heads log changes changes′ x i p row set e q z =
-    z ∙ ap₂ (putChange changes p) e (q ∙ ap (λ (r : ℕ). newCells slots words heads log changes (valuesIn clock) (x .start .0) r (targetOf (getD (x .to) i 0))) e)
+    z ∙ ap₂ (putChange changes p) e (q ∙ ap (λ (r : ℕ). newCells slots words heads log changes (valuesIn clock) (x .start .0) r
+    (targetOf (getD (x .to) i 0))) e)
 
 -- ---- the table's length stays
 
 module _ (changes changes′ changes″ : List ℕ) (e : length changes′ ≡ length changes) where
-  pub length-put : (stored : List ℕ) (p row set : ℕ) → changes″ ≡ stored → stored ≡ putChange changes′ p row set → length changes″ ≡ length changes
+  pub length-put : (stored : List ℕ) (p row set : ℕ) → changes″ ≡ stored → stored ≡ putChange changes′ p row set
+      → length changes″ ≡ length changes
   length-put stored p row set y z = ap length (y ∙ z) ∙ length-change changes′ p row set ∙ e
 
   pub length-kept : changes″ ≡ changes′ → length changes″ ≡ length changes
@@ -94,7 +100,8 @@ length-rows g [] = omega arith
 length-rows g (alter r t ∷ es) = omega (arith, length-rows g es)
 length-rows g (add v ∷ es) = omega (arith, length-rows g es)
 
-module _ (clock slots words heads log changes : List ℕ) (x : Session) (from : ℕ) (ready : RowsReady clock slots words heads log changes x from) where
+module _ (clock slots words heads log changes : List ℕ) (x : Session) (from : ℕ)
+    (ready : RowsReady clock slots words heads log changes x from) where
   abbrev sets : ℕ → Option ℕ → ℕ
   sets = newCells slots words heads log changes (valuesIn clock) (x .start .0)
 
@@ -125,11 +132,13 @@ module _ (clock slots words heads log changes : List ℕ) (x : Session) (from : 
         let low : from + length cs ≤ 2048 = omega (arith, s .place, q, m, l, ready .places-low) in
         let same : (j : ℕ) → j < from → changeAt changes′ j ≡ changeAt changes j =
         λ j h. ap (λ (c : List ℕ). changeAt c j) (s .stored) ∙ changes-before changes from cs low j h in
-        ap₂ (λ (a : ℕ) (o : Option ℕ). toggledIn (toggledIn a o) b) (set-kept changes′ changes from same 0 (endAt log (x .start .0)) row (ready .start-before))
+        ap₂ (λ (a : ℕ) (o : Option ℕ). toggledIn (toggledIn a o) b)
+        (set-kept changes′ changes from same 0 (endAt log (x .start .0)) row (ready .start-before))
         (read-kept changes′ changes from same slots words heads log (valuesIn clock) (x .start .0) row (ready .start-before))
 
     pub rows-more : (changes″ stored : List ℕ) (p′ : ℕ) → i < n → (getD (x .at) i 0 ≡ 65535 → ⊥) → changes″ ≡ stored
-        → stored ≡ putChange changes′ p (getD (x .at) i 0) (newCells slots words heads log changes′ (valuesIn clock) (x .start .0) (getD (x .at) i 0) (targetOf (getD (x .to) i 0)))
+        → stored ≡ putChange changes′ p (getD (x .at) i 0) (newCells slots words heads log changes′ (valuesIn clock) (x .start .0)
+        (getD (x .at) i 0) (targetOf (getD (x .to) i 0)))
         → p′ ≡ p + 1 → RowsStored sets x from changes changes″ (i + 1) p′
     rows-more changes″ stored p′ l old y w u =
         let cs = rowChanges sets (tab (entryAt x) i) in
@@ -142,10 +151,17 @@ module _ (clock slots words heads log changes : List ℕ) (x : Session) (from : 
               ∙ sym (changes-snoc changes from cs (record { row = row; flips = sets row b }))
               ∙ ap (putChanges changes from) (sym (rows-row x i old sets));
           place =
-              u ∙ omega (arith, s .place, ap length (rows-row x i old sets), length-append cs (record { row = row; flips = sets row b } ∷ []));
+              u ∙ omega (
+                arith,
+                s .place,
+                ap length (rows-row x i old sets),
+                length-append cs
+                    (record { row = row; flips = sets row b } ∷ []),
+              );
         }
 
-    pub rows-skip : (changes″ : List ℕ) (p′ : ℕ) → getD (x .at) i 0 ≡ 65535 → changes″ ≡ changes′ → p′ ≡ p → RowsStored sets x from changes changes″ (i + 1) p′
+    pub rows-skip : (changes″ : List ℕ) (p′ : ℕ) → getD (x .at) i 0 ≡ 65535 → changes″ ≡ changes′ → p′ ≡ p
+        → RowsStored sets x from changes changes″ (i + 1) p′
     rows-skip changes″ p′ new w u = record {
       stored = w ∙ s .stored ∙ ap (putChanges changes from) (sym (rows-new x i new sets));
       place = u ∙ s .place ∙ ap (λ (cs : List Change). from + length cs) (sym (rows-new x i new sets));
@@ -156,7 +172,8 @@ module _ (clock slots words heads log changes : List ℕ) (x : Session) (from : 
 
 -- ---- the changes of the inserts
 
-pub insert-written : (changes changes′ : List ℕ) (x : Session) (i p row set : ℕ) (v : Value) → v .0 ≡ getD (x .to) i 0 → set ≡ toggledIn 0 (standingOf (Holds v))
+pub insert-written : (changes changes′ : List ℕ) (x : Session) (i p row set : ℕ) (v : Value) → v .0 ≡ getD (x .to) i 0
+    → set ≡ toggledIn 0 (standingOf (Holds v))
     → changes′ ≡ putChange changes p row set → changes′ ≡ putChange changes p row (toggledIn 0 (some (getD (x .to) i 0)))
 insert-written changes changes′ x i p row set v e q z = z ∙ ap (putChange changes p row) (q ∙ ap (λ (k : ℕ). toggledIn 0 (some k)) e)
 
@@ -176,7 +193,8 @@ insertCells-snoc n (w ∷ vs) v =
 inserts-few : (x : Session) (i n : ℕ) → i ≤ n → length (inserts (tab (entryAt x) i)) ≤ length (inserts (tab (entryAt x) n))
 inserts-few x i n h =
     let f = entryAt x in
-    let e : tab f n ≡ tab f i ++ stretch f i n = tab-stretch f n ∙ sym (stretch-join f 0 i n (omega arith) h) ∙ ap (λ (es : List Entry). es ++ stretch f i n) (sym (tab-stretch f i)) in
+    let e : tab f n ≡ tab f i ++ stretch f i n = tab-stretch f n ∙ sym (stretch-join f 0 i n (omega arith) h)
+    ∙ ap (λ (es : List Entry). es ++ stretch f i n) (sym (tab-stretch f i)) in
     let q : inserts (tab f n) ≡ inserts (tab f i) ++ inserts (stretch f i n) = ap inserts e ∙ inserts-append (tab f i) (stretch f i n) in
     omega (arith, ap length q, length-append (inserts (tab f i)) (inserts (stretch f i n)))
 
@@ -210,8 +228,10 @@ module _ (changes : List ℕ) (x : Session) (from rows : ℕ) where
               y ∙ w
               ∙ ap₂ (λ (c : List ℕ) (j : ℕ). putChange c j (row .0) (toggledIn 0 (some to))) (s .stored)
               (s .place ∙ ap (λ (k : ℕ). from + k) (sym (length-insertCells rows sofar)))
-              ∙ ap (λ (a : ℕ). putChange (putChanges changes from (insertCells rows sofar)) (from + length (insertCells rows sofar)) a (toggledIn 0 (some to))) (s .next-row)
-              ∙ sym (changes-snoc changes from (insertCells rows sofar) (record { row = rows + length sofar; flips = toggledIn 0 (some to) }))
+              ∙ ap (λ (a : ℕ). putChange (putChanges changes from (insertCells rows sofar)) (from + length (insertCells rows sofar)) a
+              (toggledIn 0 (some to))) (s .next-row)
+              ∙ sym (changes-snoc changes from (insertCells rows sofar)
+              (record { row = rows + length sofar; flips = toggledIn 0 (some to) }))
               ∙ ap (putChanges changes from) (sym (ap (insertCells rows) (inserts-new x i new) ∙ insertCells-snoc rows sofar to));
           place = u ∙ omega (arith, s .place, ap length (inserts-new x i new), one);
           next-row = ap (λ (q : Row). q .0) k ∙ z ∙ omega (arith, s .next-row, ap length (inserts-new x i new), one);
@@ -226,7 +246,8 @@ module _ (changes : List ℕ) (x : Session) (from rows : ℕ) where
     }
 
     pub inserts-all : n ≤ i → i ≤ n → changes′ ≡ putChanges changes from (insertCells rows (inserts (entries x)))
-    inserts-all l h = let z : i ≡ x .count = omega arith in s .stored ∙ ap (λ (k : ℕ). putChanges changes from (insertCells rows (inserts (tab (entryAt x) k)))) z
+    inserts-all l h = let z : i ≡ x .count = omega arith in s .stored
+        ∙ ap (λ (k : ℕ). putChanges changes from (insertCells rows (inserts (tab (entryAt x) k)))) z
 
 -- ---- the record and the clock
 
@@ -239,12 +260,14 @@ module _ (clock log : List ℕ) (c : Clock) (k : c ≡ clockIn clock) where
   unfolding clockIn
   record-low h = rw k h
 
-  pub recorded-is : (rows : Row) (end : ℕ) (next : Clock) (clock₁ clock′ log′ : List ℕ) → next ≡ later c rows → log′ ≡ putRecord log (c .stamp .0) 1 (rows .0) end
+  pub recorded-is : (rows : Row) (end : ℕ) (next : Clock) (clock₁ clock′ log′ : List ℕ) → next ≡ later c rows
+      → log′ ≡ putRecord log (c .stamp .0) 1 (rows .0) end
       → clock₁ ≡ putMoment clock (next .stamp .0) (next .rows .0) → clock′ ≡ putChangesUsed clock₁ end
       → Recorded clock log (rows .0) end clock′ log′ (At (next .stamp) rows)
   unfolding clockIn later putMoment putChangesUsed
   recorded-is rows end next clock₁ clock′ log′ e p q r = record {
-    clock-is = r ∙ ap (λ (l : List ℕ). set l 5 end) (q ∙ ap (λ (d : Clock). set (set clock 2 (d .stamp .0)) 3 (d .rows .0)) (e ∙ ap (λ (d : Clock). later d rows) k));
+    clock-is = r ∙ ap (λ (l : List ℕ). set l 5 end) (q ∙ ap (λ (d : Clock). set (set clock 2 (d .stamp .0)) 3 (d .rows .0))
+        (e ∙ ap (λ (d : Clock). later d rows) k));
     log-is = p ∙ ap (λ (d : Clock). putRecord log (d .stamp .0) 1 (rows .0) end) k;
     says = ap (λ (d : Clock). numbers (d .stamp .0 ∷ rows .0 ∷ [])) (e ∙ ap (λ (d : Clock). later d rows) k);
   }

@@ -126,9 +126,11 @@ rowsAfter clock x = rowsIn clock + length (inserts (entries x))
 -- its changes: "listed rows first, inserts after"
 abbrev pub changesMade : List ℕ → List ℕ → List ℕ → List ℕ → List ℕ → List ℕ → Session → List Change
 changesMade clock slots words heads log changes x =
-    rowChanges (newCells slots words heads log changes (valuesIn clock) (x .start .0)) (entries x) ++ insertCells (rowsIn clock) (inserts (entries x))
+    let sets = newCells slots words heads log changes (valuesIn clock) (x .start .0) in
+    rowChanges sets (entries x) ++ insertCells (rowsIn clock) (inserts (entries x))
 
 -- the tables after it, and its answer
-pub record Committed (clock slots words heads log changes : List ℕ) (x : Session) (clock′ log′ changes′ : List ℕ) (a : Answer) : Type 0 where
+pub record Committed (clock slots words heads log changes : List ℕ) (x : Session) (clock′ log′ changes′ : List ℕ)
+    (a : Answer) : Type 0 where
   pub recorded : Recorded clock log (rowsAfter clock x) (changesIn clock + x .count) clock′ log′ a
   pub stored : changes′ ≡ putChanges changes (changesIn clock) (changesMade clock slots words heads log changes x)

@@ -52,7 +52,8 @@ module _ (clock slots words heads log changes : List ℕ) where
   module _ (x : cells.Session) (row to : ℕ) where
     -- the tests that are left, of the session that the rules see
     abbrev left : ℕ → Tables → List Test
-    left n t = noRow (session (meaning t) n) row ∷ rowAbsent (meaning t) (session (meaning t) n) row ∷ listFullFor (session (meaning t) n) row ∷ []
+    left n t = noRow (session (meaning t) n) row ∷ rowAbsent (meaning t) (session (meaning t) n) row ∷ listFullFor
+        (session (meaning t) n) row ∷ []
 
     abbrev put : ℕ → Tables → Outcome
     put n t = relisted t n (listedAt (own t n) (spotOf (own t n) row) row to)
@@ -82,8 +83,10 @@ module _ (clock slots words heads log changes : List ℕ) where
           let t = lent ts in
           idle-left t [] n (relisting d n) (d .answer) (answer.No NoRow) (idle-relisting d n NoRow e)
           ∙ sym (refuses (left n t) 7 t (put n t)
-          (ap (λ (m : ℕ). cond (leb m row) (some 7) (firstOf (rowAbsent (meaning t) (session (meaning t) n) row ∷ listFullFor (session (meaning t) n) row ∷ []))) (open-rows t n x o)
-          ∙ ap (λ (b : Bool). cond b (some 7) (firstOf (rowAbsent (meaning t) (session (meaning t) n) row ∷ listFullFor (session (meaning t) n) row ∷ []))) (le-leb (x .rows .0) row l)))
+          (ap (λ (m : ℕ). cond (leb m row) (some 7) (firstOf (rowAbsent (meaning t) (session (meaning t) n) row ∷ listFullFor
+          (session (meaning t) n) row ∷ []))) (open-rows t n x o)
+          ∙ ap (λ (b : Bool). cond b (some 7) (firstOf (rowAbsent (meaning t) (session (meaning t) n) row ∷ listFullFor
+          (session (meaning t) n) row ∷ []))) (le-leb (x .rows .0) row l)))
 
       module _ (l : row < x .rows .0) (held : Standing) (h : standingOf held ≡ stands) where
         -- 7 fails
@@ -91,12 +94,15 @@ module _ (clock slots words heads log changes : List ℕ) where
         has-row n t o = ap (λ (m : ℕ). leb m row) (open-rows t n x o) ∙ lt-leb (x .rows .0) row l
 
         -- 8 is judged alike
-        judged : (n : ℕ) (ts : List cells.Session) → OpenIn (lent ts) n x → standingIn (meaning (lent ts)) (session (meaning (lent ts)) n) row ≡ standingOf held
+        judged : (n : ℕ) (ts : List cells.Session) → OpenIn (lent ts) n x
+            → standingIn (meaning (lent ts)) (session (meaning (lent ts)) n) row ≡ standingOf held
         judged n ts o =
             let t = lent ts in
             let st = meaning t in
-            ap₂ (λ (es : List Entry) (s : ℕ). standing (target es row) (readAt (st .values) (st .log) (st .chains) s row)) (open-list t n x o) (open-start t n x o)
-            ∙ ap (standing (target (entries x) row)) (sym (read-meets t (o .good) (x .start .0) (open-facts t n x o .start-old) row)) ∙ sym h
+            ap₂ (λ (es : List Entry) (s : ℕ). standing (target es row) (readAt (st .values) (st .log) (st .chains) s row))
+            (open-list t n x o) (open-start t n x o)
+            ∙ ap (standing (target (entries x) row)) (sym (read-meets t (o .good) (x .start .0) (open-facts t n x o .start-old) row))
+            ∙ sym h
 
         pub change-absent : held ≡ Absent → d ≡ relistsNone RowAbsent → Changes
         unfolding changeOf
@@ -104,7 +110,8 @@ module _ (clock slots words heads log changes : List ℕ) where
             let t = lent ts in
             idle-left t [] n (relisting d n) (d .answer) (answer.No RowAbsent) (idle-relisting d n RowAbsent e)
             ∙ sym (refuses (left n t) 8 t (put n t)
-            (ap₂ (λ (b : Bool) (z : Option ℕ). cond b (some 7) (cond (isAbsent z) (some 8) (firstOf (listFullFor (session (meaning t) n) row ∷ [])))) (has-row n t o)
+            (ap₂ (λ (b : Bool) (z : Option ℕ). cond b (some 7) (cond (isAbsent z) (some 8)
+            (firstOf (listFullFor (session (meaning t) n) row ∷ [])))) (has-row n t o)
             (judged n ts o ∙ ap standingOf a)))
 
         pub change-on : (v : Value) → held ≡ Holds v → SettlesAny x (relisting d) (d .answer) (λ t m. targetPut t m row to) → Changes
@@ -112,7 +119,8 @@ module _ (clock slots words heads log changes : List ℕ) where
         change-on v a f n ts o =
             let t = lent ts in
             f n t o
-            ∙ sym (ap₂ (λ (b : Bool) (z : Option ℕ). unless (cond b (some 7) (cond (isAbsent z) (some 8) (firstOf (listFullFor (session (meaning t) n) row ∷ [])))) t [] (put n t)) (has-row n t o)
+            ∙ sym (ap₂ (λ (b : Bool) (z : Option ℕ). unless (cond b (some 7)
+            (cond (isAbsent z) (some 8) (firstOf (listFullFor (session (meaning t) n) row ∷ [])))) t [] (put n t)) (has-row n t o)
             (judged n ts o ∙ ap standingOf a))
 
   -- ---- the cores: with 4, 5 and 6
@@ -122,14 +130,16 @@ module _ (clock slots words heads log changes : List ℕ) where
         → Serves lent lent [] x n (relisting d n) (d .answer) (λ t. updateOf t n row v)
     unfolding updateOf tests
     update-refused row why d h k =
-        valued-refused clock slots words heads log changes [] x n (update n row v) (put (x .session) row v n) test why h (relisting d n) (d .answer)
+        valued-refused clock slots words heads log changes [] x n (update n row v) (put (x .session) row v n) test why h (relisting d n)
+        (d .answer)
         (idle-relisting d n why k) (left (x .session) row v n) v (λ t. refl) q
 
     pub insert-refused : (why : Refusal) (d : Relisted) → test ≡ No why → d ≡ relistsNone why
         → Serves lent lent [] x n (relisting d n) (d .answer) (λ t. insertOf t n v)
     unfolding insertOf tests
     insert-refused why d h k =
-        valued-refused clock slots words heads log changes [] x n (insert n v) (λ t. relisted t n (listedAt (own t n) (own t n .count) 65535 v)) test why h
+        valued-refused clock slots words heads log changes [] x n (insert n v)
+        (λ t. relisted t n (listedAt (own t n) (own t n .count) 65535 v)) test why h
         (relisting d n) (d .answer) (idle-relisting d n why k)
         (λ t. listFull (session (meaning t) n) ∷ []) v (λ t. refl) q
 
@@ -142,7 +152,12 @@ module _ (clock slots words heads log changes : List ℕ) where
       pub value-byte : Fits w8 v
       value-byte =
           let p = valued-passed clock slots words heads log changes x n test h v q in
-          omega (arith, p .value-low, clock-limits clock (parts (bare clock slots words heads log changes) (p .good) .clock-fits) .few-values)
+          omega (
+            arith,
+            p .value-low,
+            clock-limits clock (parts (bare clock slots words heads log changes)
+                (p .good) .clock-fits) .few-values,
+          )
 
       valued-open : (ts : List cells.Session) → x ≡ seatOf (lent ts) n → OpenIn (lent ts) n (x .session)
       unfolding tests
@@ -178,7 +193,8 @@ module _ (clock slots words heads log changes : List ℕ) where
         → Serves lent lent [] x n (relisting d n) (d .answer) (λ t. deleteOf t n row)
     unfolding deleteOf tests
     delete-refused row why d h k =
-        opened-refused clock slots words heads log changes [] x n (delete n row) (put (x .session) row 255 n) test why h (relisting d n) (d .answer)
+        opened-refused clock slots words heads log changes [] x n (delete n row) (put (x .session) row 255 n) test why h (relisting d n)
+        (d .answer)
         (idle-relisting d n why k) (left (x .session) row 255 n) (λ t. refl) q
 
     module _ (h : test ≡ Passed) where

@@ -25,9 +25,9 @@ use Rattle.history.specs.declared.read.Standing.{Standing}
 use Rattle.history.specs.Read.{standingOf, readCells, ReadReady}
 use Rattle.calls.specs.declared.answers.Relisted.{Relisted}
 use Rattle.calls.specs.declared.answers.Answer.the-variants.{No}
-use Rattle.calls.specs.Said.{no, numbers}
+use Rattle.calls.specs.Said.{no}
 use Rattle.calls.specs.Outcome.{Outcome, outcome, unless}
-use Rattle.calls.specs.Calls.{own, reseated, spotOf, listedAt, relisted}
+use Rattle.calls.specs.Calls.{own, spotOf, listedAt, relisted}
 use Rattle.calls.specs.Seats.{relists, relistsNone, relisting}
 use Rattle.calls.specs.Opened.{SettlesAny}
 use Rattle.listing.specs.Change.{entered, appendOf, targetPut, Stands}
@@ -36,7 +36,8 @@ use Rattle.calls.proofs.OpenLaws.{open-list, listed-target, listed-lists, unlis
 
 -- ---- the standing value of a row
 
-module _ (clock slots words heads log changes : List ℕ) (x : Session) (row spot : ℕ) (s : Stands clock slots words heads log changes x row spot) where
+module _ (clock slots words heads log changes : List ℕ) (x : Session) (row spot : ℕ)
+    (s : Stands clock slots words heads log changes x row spot) where
   abbrev read : Option ℕ
   read = readCells slots words heads log changes (valuesIn clock) (x .start .0) row
 
@@ -93,14 +94,16 @@ module _ (x : Session) (at to : ℕ) (d : Relisted) where
   unfolding appendOf withEntry
   append-more i y l m w e n t o =
       relisted-left t [] n d y (o .place-low) e ∙ ap (relisted t n) (w ∙ ap (λ (j : ℕ). withEntry x j at to (x .count + 1)) m)
-      ∙ ap (λ (b : Bool). relisted t n (withEntry x (x .count) at to (cond b (x .count) (x .count + 1)))) (sym (le-ltb (x .count) (x .count) (omega arith)))
+      ∙ ap (λ (b : Bool). relisted t n (withEntry x (x .count) at to (cond b (x .count) (x .count + 1))))
+      (sym (le-ltb (x .count) (x .count) (omega arith)))
       ∙ ap (λ (z : Session). relisted t n (listedAt z (z .count) at to)) (sym (o .own-there))
       ∙ sym (accepts (listFull (session (meaning t) n) ∷ []) t (relisted t n (listedAt (own t n) (own t n .count) at to))
       (ap (λ (b : Bool). cond b (some 9) none) (ap isFull (open-list t n x o) ∙ not-full x l)))
 
 -- ---- a row's target
 
-module _ (x : Session) (row to : ℕ) (d : Relisted) (low : row < 65535) (spot : ℕ) (p : spot ≡ spotOf x row) (k : ℕ) (m : k ≡ x .count) (at : ℕ) (a : at ≡ row) where
+module _ (x : Session) (row to : ℕ) (d : Relisted) (low : row < 65535) (spot : ℕ) (p : spot ≡ spotOf x row) (k : ℕ) (m : k ≡ x .count)
+    (at : ℕ) (a : at ≡ row) where
   and-false : (b : Bool) → b && false ≡ false
   and-false true = refl
   and-false false = refl
@@ -117,7 +120,8 @@ module _ (x : Session) (row to : ℕ) (d : Relisted) (low : row < 65535) (spot :
   target-there y l w e n t o =
       let here : spotOf x row < x .count = omega arith in
       relisted-left t [] n d y (o .place-low) e ∙ ap (relisted t n) (w ∙ ap₂ (λ (i r : ℕ). withEntry x i r to (x .count)) p a)
-      ∙ ap (λ (b : Bool). relisted t n (withEntry x (spotOf x row) row to (cond b (x .count) (x .count + 1)))) (sym (lt-ltb (spotOf x row) (x .count) here))
+      ∙ ap (λ (b : Bool). relisted t n (withEntry x (spotOf x row) row to (cond b (x .count) (x .count + 1))))
+      (sym (lt-ltb (spotOf x row) (x .count) here))
       ∙ ap (λ (z : Session). relisted t n (listedAt z (spotOf z row) row to)) (sym (o .own-there))
       ∙ sym (accepts (listFullFor (session (meaning t) n) row ∷ []) t (relisted t n (listedAt (own t n) (spotOf (own t n) row) row to))
       (ap (λ (es : List rules.Entry). cond (isFull es && not (lists es row)) (some 9) none) (open-list t n x o)
@@ -129,7 +133,10 @@ module _ (x : Session) (row to : ℕ) (d : Relisted) (low : row < 65535) (spot :
   target-new l f n t o =
       let off : x .count ≤ spotOf x row = omega arith in
       let same : listFull (session (meaning t) n) ≡ listFullFor (session (meaning t) n) row =
-      ap (λ (b : Bool). (b, 9)) (sym (ap (λ (b : Bool). isFull (listOf (session (meaning t) n)) && not b) (ap (λ (es : List rules.Entry). lists es row) (open-list t n x o) ∙ unlisted-lists x row low off) ∙ and-true (isFull (listOf (session (meaning t) n))))) in
-      let place : own t n .count ≡ spotOf (own t n) row = ap (λ (z : Session). z .count) (o .own-there) ∙ sym (ap (λ (z : Session). spotOf z row) (o .own-there) ∙ unlisted-spot x row low off) in
+      ap (λ (b : Bool). (b, 9)) (sym (ap (λ (b : Bool). isFull (listOf (session (meaning t) n)) && not b)
+      (ap (λ (es : List rules.Entry). lists es row) (open-list t n x o) ∙ unlisted-lists x row low off)
+      ∙ and-true (isFull (listOf (session (meaning t) n))))) in
+      let place : own t n .count ≡ spotOf (own t n) row = ap (λ (z : Session). z .count) (o .own-there)
+      ∙ sym (ap (λ (z : Session). spotOf z row) (o .own-there) ∙ unlisted-spot x row low off) in
       f n t o ∙ ap (λ (r : ℕ). entered (listFull (session (meaning t) n) ∷ []) t n (own t n .count) r to) a
       ∙ ap₂ (λ (c : Test) (i : ℕ). entered (c ∷ []) t n i row to) same place

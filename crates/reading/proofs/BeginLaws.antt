@@ -28,7 +28,8 @@ use Rattle.calls.specs.Calls.{own, reseated, beginning, beginOf, abortOf}
 use Rattle.calls.specs.Seats.{seatOf, opens, opensNone, frees, freesNone, opening, freeing, Serves}
 use Rattle.calls.specs.Enter.{whyOf, placedBy, openedBy}
 use Rattle.calls.proofs.Entered.{bare, placed-passed, placed-goes, opened-goes, opened-passed, own-seat}
-use Rattle.calls.proofs.Serving.{idle-opening, idle-freeing, idle-left, opened-left, freed-left, accepted-outcome, placed-refused, opened-refused}
+use Rattle.calls.proofs.Serving.{idle-opening, idle-freeing, idle-left, opened-left, freed-left, accepted-outcome, placed-refused}
+use Rattle.calls.proofs.Serving.{opened-refused}
 
 module _ (clock slots words heads log changes : List ℕ) (x : Seat) (n : ℕ) (test : asked.Test) where
   abbrev lent : List Session → Tables
@@ -43,13 +44,15 @@ module _ (clock slots words heads log changes : List ℕ) (x : Seat) (n : ℕ) (
     pub begin-refused : (why : Refusal) (d : Begun) → test ≡ No why → d ≡ opensNone (answer.No why) → Begins d
     unfolding beginOf tests
     begin-refused why d h k =
-        placed-refused clock slots words heads log changes [] x n (begin n) (λ t. beginning t n (own t n)) test why h (opening d n) (d .answer)
+        placed-refused clock slots words heads log changes [] x n (begin n) (λ t. beginning t n (own t n)) test why h (opening d n)
+        (d .answer)
         (idle-opening d n (answer.No why) k) (λ t. []) (λ t. refl) q
 
     module _ (h : test ≡ Passed) where
       pub begin-clock : 6 ≤ length clock
       begin-clock =
-          room-facts (bare clock slots words heads log changes) (placed-passed clock slots words heads log changes x n test h q .room) .clock-room
+          room-facts (bare clock slots words heads log changes)
+          (placed-passed clock slots words heads log changes x n test h q .room) .clock-room
 
       -- an accepted begin, of the session that the seat has
       accepted : (ts : List Session) → x ≡ seatOf (lent ts) n → beginOf (lent ts) n ≡ beginning (lent ts) n (x .session)
@@ -70,7 +73,8 @@ module _ (clock slots words heads log changes : List ℕ) (x : Seat) (n : ℕ) (
       unfolding beginning
       begin-again d l k ts e =
           let t = lent ts in
-          idle-left t [] n (opening d n) (d .answer) (At (x .session .start) (x .session .rows)) (idle-opening d n (At (x .session .start) (x .session .rows)) k)
+          idle-left t [] n (opening d n) (d .answer) (At (x .session .start) (x .session .rows))
+          (idle-opening d n (At (x .session .start) (x .session .rows)) k)
           ∙ ap (λ (b : Bool). cond b (again t) (new t)) (sym (eq-eqb (x .session .live) 1 l)) ∙ sym (accepted ts e)
 
       pub begin-new : (c : Clock) (d : Begun) → (x .session .live ≡ 1 → ⊥) → c ≡ clockIn clock → d ≡ opens (c .stamp) (c .rows) → Begins d
@@ -93,7 +97,8 @@ module _ (clock slots words heads log changes : List ℕ) (x : Seat) (n : ℕ) (
     pub abort-refused : (why : Refusal) (d : Freed) → test ≡ No why → d ≡ freesNone why → Aborts d
     unfolding abortOf tests
     abort-refused why d h k =
-        opened-refused clock slots words heads log changes [] x n (abort n) dropped test why h (freeing d n) (d .answer) (idle-freeing d n why k)
+        opened-refused clock slots words heads log changes [] x n (abort n) dropped test why h (freeing d n) (d .answer)
+        (idle-freeing d n why k)
         (λ t. []) (λ t. refl) q
 
     pub abort-frees : (d : Freed) → test ≡ Passed → d ≡ frees (Count (x .session .count)) → Aborts d

@@ -34,7 +34,8 @@ module _ (ws scratch : List ℕ) (place : Place) where
   module _ (i : ℕ) (e : place ≡ Slot i) where
     by-slot : (b : Bool) → ltb i 96 && leb (32 * i + 32) (length ws) ≡ b → cond b (take 32 (drop (32 * i) ws)) [] ≡ part
     unfolding pickedFrom
-    by-slot b h = ap (λ (t : Bool). cond t (take 32 (drop (32 * i) ws)) []) (sym h) ∙ ap (λ (p : Place). pickedFrom ws scratch (placeOf p)) (sym e)
+    by-slot b h = ap (λ (t : Bool). cond t (take 32 (drop (32 * i) ws)) []) (sym h)
+        ∙ ap (λ (p : Place). pickedFrom ws scratch (placeOf p)) (sym e)
 
     pub pick-past : 96 ≤ i → [] ≡ part
     pick-past l = by-slot false (ap (λ (t : Bool). t && leb (32 * i + 32) (length ws)) (le-ltb i 96 l))

@@ -55,7 +55,8 @@ module _ (clock slots words heads log changes scratch : List ℕ) (x : Seat) (n 
   pub query-refused : (why : Refusal) → test ≡ No why → Answers scratch (answer.No why)
   unfolding queryOf tests
   query-refused why h =
-      valued-refused clock slots words heads log changes (scratch ∷ []) x n (query n v threshold (length scratch)) done test why h untouched (answer.No why)
+      valued-refused clock slots words heads log changes (scratch ∷ []) x n (query n v threshold (length scratch)) done test why h untouched
+      (answer.No why)
       (idle _ _ refl) (λ t. shortScratch (length scratch) ∷ []) v (λ t. refl) q
 
   module _ (h : test ≡ Passed) where
@@ -64,7 +65,8 @@ module _ (clock slots words heads log changes scratch : List ℕ) (x : Seat) (n 
 
     pub query-ready : 32 ≤ length scratch → Ready slots words heads log changes scratch (x .session .start .0) v
     query-ready l =
-        ready (bare clock slots words heads log changes) (passed .room) (passed .good) (x .session .start .0) (passed .start-old) v (passed .value-low) scratch l
+        ready (bare clock slots words heads log changes) (passed .room) (passed .good) (x .session .start .0) (passed .start-old) v
+        (passed .value-low) scratch l
 
     module _ (ts : List Session) (e : x ≡ seatOf (lent ts) n) where
       went : Goes (lent ts) (query n v threshold (length scratch)) (shortScratch (length scratch) ∷ [])
@@ -98,7 +100,8 @@ module _ (clock slots words heads log changes scratch : List ℕ) (x : Seat) (n 
 
         flips-are : f .flips ≡ flipsSeen (lent ts) start v
         flips-are =
-            ap (λ (g : Found). g .flips) p ∙ count-meets (lent ts) (went ts e .good) start (shown ts e .facts .start-old) v (passed .value-low)
+            ap (λ (g : Found). g .flips) p ∙ count-meets (lent ts) (went ts e .good) start (shown ts e .facts .start-old) v
+            (passed .value-low)
 
         scratch-is : after ≡ cond (eqb (flipsSeen (lent ts) start v) 0) scratch (over (vec (rowsSeen (lent ts) start v) 32) scratch)
         unfolding frontFilled
@@ -114,7 +117,8 @@ module _ (clock slots words heads log changes scratch : List ℕ) (x : Seat) (n 
           (scratch-is ts e ∙ ap (λ (b : Bool). cond b scratch (over (vec (rowsSeen t start v) 32) scratch)) none-flipped)
           (ap (λ (g : Found). g .slot) p)
           ∙ ap (λ (b : Bool). cond b (outcome t (scratch ∷ []) (says.words 0 false (some (slotSeen slots heads start v))))
-          (outcome t (over (vec (rowsSeen t start v) 32) scratch ∷ []) (says.words (flipsSeen t start v) (ltb threshold (flipsSeen t start v)) none))) (sym none-flipped)
+          (outcome t (over (vec (rowsSeen t start v) 32) scratch ∷ [])
+          (says.words (flipsSeen t start v) (ltb threshold (flipsSeen t start v)) none))) (sym none-flipped)
           ∙ sym (accepted ts e)
 
       -- some are: the scratch's
@@ -126,5 +130,6 @@ module _ (clock slots words heads log changes scratch : List ℕ) (x : Seat) (n 
           ap₂ (λ (ws : List ℕ) (m : ℕ). outcome t (ws ∷ []) (says.words m (ltb threshold m) none))
           (scratch-is ts e ∙ ap (λ (b : Bool). cond b scratch (over (vec (rowsSeen t start v) 32) scratch)) some-flipped) (flips-are ts e)
           ∙ ap (λ (b : Bool). cond b (outcome t (scratch ∷ []) (says.words 0 false (some (slotSeen slots heads start v))))
-          (outcome t (over (vec (rowsSeen t start v) 32) scratch ∷ []) (says.words (flipsSeen t start v) (ltb threshold (flipsSeen t start v)) none))) (sym some-flipped)
+          (outcome t (over (vec (rowsSeen t start v) 32) scratch ∷ [])
+          (says.words (flipsSeen t start v) (ltb threshold (flipsSeen t start v)) none))) (sym some-flipped)
           ∙ sym (accepted ts e)

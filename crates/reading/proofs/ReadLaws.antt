@@ -37,7 +37,8 @@ use Rattle.calls.specs.Enter.{whyOf, openedBy}
 use Rattle.calls.proofs.Entered.{bare, Goes, Shows, Opened, opened-passed, opened-goes, opened-shows}
 use Rattle.calls.proofs.Serving.{idle, refused-outcome, accepted-outcome, opened-refused}
 
-module _ (clock slots words heads log changes : List ℕ) (x : Seat) (n row : ℕ) (test : asked.Test) (q : whyOf test ≡ openedBy clock slots words heads log changes x n) where
+module _ (clock slots words heads log changes : List ℕ) (x : Seat) (n row : ℕ) (test : asked.Test)
+    (q : whyOf test ≡ openedBy clock slots words heads log changes x n) where
   abbrev lent : List Session → Tables
   lent = tables clock slots words heads log changes
 

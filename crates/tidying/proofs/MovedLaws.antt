@@ -3,24 +3,22 @@
 use mathlib.Core.Path.{_≡_, refl, sym, ap, ap₂, _∙_, subst, fun-ext}
 use mathlib.Core.Bool.{Bool, true, false, cond, true≢false}
 use mathlib.Core.List.{List, [], _∷_, _++_, map, map-append, append-nil, append-assoc}
-use mathlib.Core.Logic.{_⊎_, inl, inr, ⊎-elim}
+use mathlib.Core.Logic.{⊎-elim}
 use Prim.Native.Nat.{ℕ, zero, suc, _+_, _-_, _*_, _/_, _^_, _≤_, _<_}
-use native.Mathlib.Nat.{add-zero, add-suc, add-assoc, div-one, lt-of-le-of-lt, pos-of-ne-zero, lt-suc-self}
-use native.Mathlib.Numerals.{add-one}
+use native.Mathlib.Nat.{add-zero, add-suc, add-assoc, div-one, lt-of-le-of-lt, pos-of-ne-zero}
 use native.Mathlib.Omega.{arith}
 use lib.Count.{trailingZeros}
 use lib.Pow.{shr-shr, shr-le}
 use lib.ListN.{length, getD, length-map, length-append}
 use Rattle.bits.specs.Bit.{bit, bit-shr, bit-above, bit-of-zero, clearBit}
-use Rattle.bits.specs.Cases.{lt-cases, bool-cases}
+use Rattle.bits.specs.Cases.{lt-cases}
 use Rattle.bits.specs.Rows.{countBelow, rowsBelow, countOf, rowsOf, length-rows, rows-take, rows-skip, rows-ext, count-ext, count-split}
 use Rattle.bits.specs.Scan.{tz-low, tz-bit}
 use Rattle.bits.specs.Words.{bitAt, bit-of-word}
 use Rattle.rules.specs.State.{Change}
-use Rattle.tables.specs.Meaning.{changeAt}
 use Rattle.tables.specs.Stores.{putChange}
 use Rattle.history.specs.declared.changes.Last.{Last}
-use Rattle.history.specs.Last.{lastSet, lastOf}
+use Rattle.history.specs.Last.{lastOf}
 use Rattle.history.proofs.Kept.{set-kept}
 use Rattle.calls.specs.Stores.{putChanges}
 use Rattle.tidying.specs.Tidy.{lessAt, RowsPut, wordRows, Puttable}
@@ -33,7 +31,8 @@ unfolding putChanges
 put-none from to v l = record { stored = refl; place = sym (add-zero from) }
 
 -- what `put_less` knows at its end
-pub put-one : (l l′ : List ℕ) (p to v row set : ℕ) (last : Last) → last ≡ lastOf l to row → set ≡ clearBit (last .set) v → l′ ≡ putChange l p row set
+pub put-one : (l l′ : List ℕ) (p to v row set : ℕ) (last : Last) → last ≡ lastOf l to row → set ≡ clearBit (last .set) v
+    → l′ ≡ putChange l p row set
     → RowsPut (row ∷ []) p to v l l′ (p + 1)
 unfolding putChanges lastOf
 put-one l l′ p to v row set last e q s =
@@ -43,13 +42,15 @@ pub put-length : (rows : List ℕ) (from to v : ℕ) (l l′ : List ℕ) (p : �
 put-length rows from to v l l′ p f = ap length (f .stored) ∙ length-changes l from (map (lessAt l to v) rows)
 
 -- changes put at or after `from` leave the flip sets up to `to` before it
-less-kept : (l : List ℕ) (from to v : ℕ) (cs : List Change) → to ≤ from → from + length cs ≤ 2048 → lessAt (putChanges l from cs) to v ≡ lessAt l to v
+less-kept : (l : List ℕ) (from to v : ℕ) (cs : List Change) → to ≤ from → from + length cs ≤ 2048
+    → lessAt (putChanges l from cs) to v ≡ lessAt l to v
 less-kept l from to v cs h k =
     fun-ext
     (λ r. ap (λ (m : ℕ). record { row = r; flips = clearBit m v })
     (set-kept (putChanges l from cs) l from (λ q m. changes-before l from cs k q m) 0 to r h))
 
-pub put-more : (a b : List ℕ) (from to v : ℕ) (l l₁ l₂ : List ℕ) (p q : ℕ) → to ≤ from → p ≤ 2048 → RowsPut a from to v l l₁ p → RowsPut b p to v l₁ l₂ q
+pub put-more : (a b : List ℕ) (from to v : ℕ) (l l₁ l₂ : List ℕ) (p q : ℕ) → to ≤ from → p ≤ 2048 → RowsPut a from to v l l₁ p
+    → RowsPut b p to v l₁ l₂ q
     → RowsPut (a ++ b) from to v l l₂ q
 put-more a b from to v l l₁ l₂ p q h k f g =
     let less = lessAt l to v in
@@ -61,7 +62,8 @@ put-more a b from to v l l₁ l₂ p q h k f g =
           (ap (λ (x : List ℕ). lessAt x to v) (f .stored) ∙ less-kept l from to v (map less a) h (omega (arith, n, f .place)))
           ∙ ap (λ (m : ℕ). putChanges (putChanges l from (map less a)) m (map less b)) (f .place ∙ ap (λ (m : ℕ). from + m) (sym n))
           ∙ sym (changes-append l from (map less a) (map less b)) ∙ ap (putChanges l from) (sym (map-append less a b));
-      place = g .place ∙ ap (λ (m : ℕ). m + length b) (f .place) ∙ add-assoc from (length a) (length b) ∙ ap (λ (m : ℕ). from + m) (sym (length-append a b));
+      place = g .place ∙ ap (λ (m : ℕ). m + length b) (f .place) ∙ add-assoc from (length a) (length b)
+          ∙ ap (λ (m : ℕ). from + m) (sym (length-append a b));
     }
 
 -- ---- the rows of a word
@@ -88,9 +90,11 @@ rows-split f m (suc n) = ap (rowsBelow f) (add-suc m n) ∙ go (f (m + n)) (rows
     go : (t : Bool) → rowsBelow f (m + n) ≡ rowsBelow f m ++ map (λ k. m + k) (rowsBelow g n)
         → rowsBelow f (m + n) ++ cond t ((m + n) ∷ []) [] ≡ rowsBelow f m ++ map (λ k. m + k) (rowsBelow g n ++ cond t (n ∷ []) [])
     go t e =
-        ap (λ (xs : List ℕ). xs ++ cond t ((m + n) ∷ []) []) e ∙ append-assoc (rowsBelow f m) (map (λ k. m + k) (rowsBelow g n)) (cond t ((m + n) ∷ []) [])
+        ap (λ (xs : List ℕ). xs ++ cond t ((m + n) ∷ []) []) e ∙ append-assoc (rowsBelow f m) (map (λ k. m + k) (rowsBelow g n))
+        (cond t ((m + n) ∷ []) [])
         ∙ ap (λ (xs : List ℕ). rowsBelow f m ++ xs)
-        (ap (λ (xs : List ℕ). map (λ k. m + k) (rowsBelow g n) ++ xs) (at t) ∙ sym (map-append (λ k. m + k) (rowsBelow g n) (cond t (n ∷ []) [])))
+        (ap (λ (xs : List ℕ). map (λ k. m + k) (rowsBelow g n) ++ xs) (at t)
+        ∙ sym (map-append (λ k. m + k) (rowsBelow g n) (cond t (n ∷ []) [])))
       where
         at : (t : Bool) → cond t ((m + n) ∷ []) [] ≡ map (λ k. m + k) (cond t (n ∷ []) [])
         at true = refl
@@ -121,7 +125,8 @@ module _ (base word from to v : ℕ) (l : List ℕ) where
 
       pub next-lt : k + next x < 64
       next-lt =
-          ⊎-elim (λ m. m) (λ (m : 64 ≤ k + next x). absurd (true≢false (sym set-there ∙ bit-above 64 word (k + next x) fits m))) (lt-cases (k + next x) 64)
+          ⊎-elim (λ m. m) (λ (m : 64 ≤ k + next x). absurd (true≢false (sym set-there ∙ bit-above 64 word (k + next x) fits m)))
+          (lt-cases (k + next x) 64)
 
       -- the row of the next set bit is the next row
       rows-next : rowsBelow (bit word) (k + next x + 1) ≡ rowsBelow (bit word) k ++ ((k + next x) ∷ [])
@@ -176,7 +181,8 @@ module _ (moved : List ℕ) (from to v : ℕ) (l : List ℕ) where
   unfolding rowsBelow
   moved-none = put-none from to v l
 
-  module _ (l′ : List ℕ) (p i b : ℕ) (long : length moved ≡ 32) (h : i < 32) (e : b ≡ i * 64) (f : RowsPut (rowsBelow (bitAt moved) (i * 64)) from to v l l′ p)
+  module _ (l′ : List ℕ) (p i b : ℕ) (long : length moved ≡ 32) (h : i < 32) (e : b ≡ i * 64)
+      (f : RowsPut (rowsBelow (bitAt moved) (i * 64)) from to v l l′ p)
       (g : Puttable l from to v (countOf moved)) where
     word-rows : rowsBelow (bitAt moved) ((i + 1) * 64) ≡ rowsBelow (bitAt moved) (i * 64) ++ wordRows b (getD moved i 0) 64
     word-rows =
@@ -189,7 +195,8 @@ module _ (moved : List ℕ) (from to v : ℕ) (l : List ℕ) where
     unfolding countOf
     word-room =
         let z : i * 64 + 64 + (31 - i) * 64 ≡ 32 * 64 = omega arith in
-        let c : countOf moved ≡ countBelow (bitAt moved) (i * 64 + 64 + (31 - i) * 64) = ap (λ (k : ℕ). countBelow (bitAt moved) (k * 64)) long ∙ ap (countBelow (bitAt moved)) (sym z) in
+        let c : countOf moved ≡ countBelow (bitAt moved) (i * 64 + 64 + (31 - i) * 64) =
+        ap (λ (k : ℕ). countBelow (bitAt moved) (k * 64)) long ∙ ap (countBelow (bitAt moved)) (sym z) in
         omega (
           arith,
           c,
@@ -212,15 +219,19 @@ module _ (moved : List ℕ) (from to v : ℕ) (l : List ℕ) where
       omega arith,
     )
 
-    pub moved-more : (l″ : List ℕ) (q : ℕ) → RowsPut (wordRows b (getD moved i 0) 64) p to v l′ l″ q → RowsPut (rowsBelow (bitAt moved) ((i + 1) * 64)) from to v l l″ q
+    pub moved-more : (l″ : List ℕ) (q : ℕ) → RowsPut (wordRows b (getD moved i 0) 64) p to v l′ l″ q
+        → RowsPut (rowsBelow (bitAt moved) ((i + 1) * 64)) from to v l l″ q
     moved-more l″ q r =
         subst (λ (rows : List ℕ). RowsPut rows from to v l l″ q) (sym word-rows)
-        (put-more (rowsBelow (bitAt moved) (i * 64)) (wordRows b (getD moved i 0) 64) from to v l l′ l″ p q (g .old-before) (omega (arith, word-room)) f r)
+        (put-more (rowsBelow (bitAt moved) (i * 64)) (wordRows b (getD moved i 0) 64) from to v l l′ l″ p q (g .old-before)
+        (omega (arith, word-room)) f r)
 
-  pub moved-all : (l′ : List ℕ) (p i : ℕ) → length moved ≡ 32 → i ≤ 32 → 32 ≤ i → RowsPut (rowsBelow (bitAt moved) (i * 64)) from to v l l′ p
+  pub moved-all : (l′ : List ℕ) (p i : ℕ) → length moved ≡ 32 → i ≤ 32 → 32 ≤ i
+      → RowsPut (rowsBelow (bitAt moved) (i * 64)) from to v l l′ p
       → RowsPut (rowsOf moved) from to v l l′ (from + countOf moved)
   unfolding rowsOf countOf
   moved-all l′ p i long h k f =
       let e : i * 64 ≡ length moved * 64 = omega arith in
-      let g : RowsPut (rowsBelow (bitAt moved) (length moved * 64)) from to v l l′ p = subst (λ (m : ℕ). RowsPut (rowsBelow (bitAt moved) m) from to v l l′ p) e f in
+      let g : RowsPut (rowsBelow (bitAt moved) (length moved * 64)) from to v l l′ p =
+      subst (λ (m : ℕ). RowsPut (rowsBelow (bitAt moved) m) from to v l l′ p) e f in
       record { stored = g .stored; place = ap (λ (m : ℕ). from + m) (sym (length-rows (bitAt moved) (length moved * 64))) }

@@ -43,18 +43,28 @@ module _ (slots words heads log changes : List ℕ) (k s v : ℕ) where
   -- the rows that the mask is made of
   pub mask-rows : (from to : ℕ) → Fillable slots words heads log changes k s v → to ≡ endAt log s → RowsLow changes from to
   mask-rows from to f e =
-      record { changes-room = f .rows .changes-room; end-low = rw e (f .rows .end-low); rows-low = λ p h l. f .rows .rows-low p (omega arith) (omega arith) }
+      record {
+        changes-room = f .rows .changes-room;
+        end-low = rw e (f .rows .end-low);
+        rows-low =
+            λ p h l. f .rows .rows-low p (omega arith) (omega arith);
+      }
 
-  pub vector-written : (base : Base) (to : ℕ) (mask own d : List ℕ) (j : ℕ) → Words words → Fillable slots words heads log changes k s v → base .slot < 96
-      → base ≡ baseSeen slots heads log s v → to ≡ endAt log s → mask ≡ vec (flippedIn changes (base .from) to v) 32 → own ≡ slotWords words (base .slot)
-      → d ≡ xorWords own mask → j ≡ k → putMid (32 * j) (32 * j + 32 - 32 * j) words d ≡ putPart (32 * k) (vec (queriedAt slots words heads log changes s v) 32) words
+  pub vector-written : (base : Base) (to : ℕ) (mask own d : List ℕ) (j : ℕ) → Words words → Fillable slots words heads log changes k s v
+      → base .slot < 96
+      → base ≡ baseSeen slots heads log s v → to ≡ endAt log s → mask ≡ vec (flippedIn changes (base .from) to v) 32
+      → own ≡ slotWords words (base .slot)
+      → d ≡ xorWords own mask → j ≡ k → putMid (32 * j) (32 * j + 32 - 32 * j) words d ≡ putPart (32 * k)
+      (vec (queriedAt slots words heads log changes s v) 32) words
   unfolding queriedAt queriedSince
   vector-written base to mask own d j w f low b t m o x q =
       let old = slotWords words (base .slot) in
       let c : length old ≡ 32 = length-slotWords words (base .slot) low (f .words-room) in
       let g : Base → ℕ → ℕ → Bool = λ y z r. xorb (bitAt (slotWords words (y .slot)) r) (flippedIn changes (y .from) z v r) in
       let z : d ≡ vec (g (baseSeen slots heads log s v) (endAt log s)) 32 =
-      x ∙ ap₂ xorWords o (m ∙ ap (vec (flippedIn changes (base .from) to v)) (sym c)) ∙ xor-vec old (flippedIn changes (base .from) to v) (words-slotWords words (base .slot) w)
+      x ∙ ap₂ xorWords o (m ∙ ap (vec (flippedIn changes (base .from) to v)) (sym c))
+      ∙ xor-vec old (flippedIn changes (base .from) to v) (words-slotWords words (base .slot) w)
       ∙ ap (vec (g base to)) c ∙ ap₂ (λ (y : Base) (n : ℕ). vec (g y n) 32) b t in
-      part-back (32 * j) 32 words d (vec (g (baseSeen slots heads log s v) (endAt log s)) 32) z (length-vec (g (baseSeen slots heads log s v) (endAt log s)) 32)
+      part-back (32 * j) 32 words d (vec (g (baseSeen slots heads log s v) (endAt log s)) 32) z
+      (length-vec (g (baseSeen slots heads log s v) (endAt log s)) 32)
       ∙ ap (λ (n : ℕ). putPart (32 * n) (vec (g (baseSeen slots heads log s v) (endAt log s)) 32) words) q

@@ -2,7 +2,7 @@
 -- Assumes nothing.
 use mathlib.Core.Path.{_≡_, refl, sym, ap, ap₂, _∙_, subst}
 use mathlib.Core.Bool.{Bool, true, false, _||_}
-use mathlib.Core.List.{List, [], _∷_}
+use mathlib.Core.List.{List}
 use Prim.Native.Nat.{ℕ, _+_, _*_, _≤_, _<_}
 use native.Mathlib.Numerals.{add-one}
 use native.Mathlib.Omega.{arith}
@@ -11,12 +11,10 @@ use lib.ListN.{length}
 use Rattle.bits.specs.Bit.{bit}
 use Rattle.bits.specs.Rows.{countOf, count-le}
 use Rattle.bits.specs.Words.{bitAt}
-use Rattle.rules.specs.State.{Change}
 use Rattle.rules.specs.Log.{someChange}
 use Rattle.rules.specs.Refusals.{firstOf}
 use Rattle.tables.specs.declared.clock.Clock.{Clock}
 use Rattle.tables.specs.declared.refusal.Refusal.the-variants.{NothingToMove, Stale, RecordsFull, ChangesFull, SlotsFull}
-use Rattle.tables.specs.Refusals.{numberOf}
 use Rattle.tables.specs.Cells.{stampIn, slotsIn, changesIn, slotStamp, headOf, endAt, changeRow, changeSet}
 use Rattle.tables.specs.Clock.{clockIn}
 use Rattle.tables.specs.Meaning.{changeAt}
@@ -37,7 +35,8 @@ module _ (changes moved : List ℕ) (v to : ℕ) where
   unfolding touchedIn
   front p h =
       ap (someChange (touches moved v)) (stretch-front (changeAt changes) p to h)
-      ∙ ap (λ (k : ℕ). touches moved v (changeAt changes p) || someChange (touches moved v) (stretch (changeAt changes) k to)) (sym (add-one p))
+      ∙ ap (λ (k : ℕ). touches moved v (changeAt changes p) || someChange (touches moved v) (stretch (changeAt changes) k to))
+      (sym (add-one p))
 
   module _ (from p : ℕ) (i : touchedIn changes from to moved v ≡ touchedIn changes p to moved v) where
     pub touched-none : to ≤ p → false ≡ touchedIn changes from to moved v
@@ -49,7 +48,8 @@ module _ (changes moved : List ℕ) (v to : ℕ) where
       named = e ∙ ap (bitAt moved) (w ∙ r)
 
       pub touched-row : b ≡ true → true ≡ touchedIn changes from to moved v
-      touched-row z = sym (i ∙ front p h ∙ ap (λ (t : Bool). t || bit (changeSet changes p) v || touchedIn changes (p + 1) to moved v) (sym named ∙ z))
+      touched-row z = sym (i ∙ front p h ∙ ap (λ (t : Bool). t || bit (changeSet changes p) v || touchedIn changes (p + 1) to moved v)
+          (sym named ∙ z))
 
       module _ (set : ℕ) (d : Bool) (s : set ≡ changeSet changes p) (g : d ≡ bit set v) where
         has : d ≡ bit (changeSet changes p) v
@@ -68,20 +68,24 @@ module _ (changes moved : List ℕ) (v to : ℕ) where
 
 -- ---- stale
 
-module _ (slots heads log changes : List ℕ) (last s v : ℕ) (moved : List ℕ) (head stamp : ℕ) (e : head ≡ headOf heads v) (q : stamp ≡ slotStamp slots head) where
+module _ (slots heads log changes : List ℕ) (last s v : ℕ) (moved : List ℕ) (head stamp : ℕ) (e : head ≡ headOf heads v)
+    (q : stamp ≡ slotStamp slots head) where
   newest : stamp ≡ slotStamp slots (headOf heads v)
   newest = q ∙ ap (slotStamp slots) e
 
   pub stale-head : s < stamp → true ≡ staleAt slots heads log changes last s v moved
   unfolding staleAt
-  stale-head h = sym (ap (λ (t : Bool). t || touchedIn changes (endAt log s) (endAt log last) moved v) (lt-ltb s (slotStamp slots (headOf heads v)) (omega (arith, newest))))
+  stale-head h = sym (ap (λ (t : Bool). t || touchedIn changes (endAt log s) (endAt log last) moved v)
+      (lt-ltb s (slotStamp slots (headOf heads v)) (omega (arith, newest))))
 
-  pub stale-touched : (from to : ℕ) (r : Bool) → stamp ≤ s → from ≡ endAt log s → to ≡ endAt log last → r ≡ touchedIn changes from to moved v
+  pub stale-touched : (from to : ℕ) (r : Bool) → stamp ≤ s → from ≡ endAt log s → to ≡ endAt log last
+      → r ≡ touchedIn changes from to moved v
       → r ≡ staleAt slots heads log changes last s v moved
   unfolding staleAt
   stale-touched from to r h a b c =
       c ∙ ap₂ (λ (x y : ℕ). touchedIn changes x y moved v) a b
-      ∙ sym (ap (λ (t : Bool). t || touchedIn changes (endAt log s) (endAt log last) moved v) (le-ltb s (slotStamp slots (headOf heads v)) (omega (arith, newest))))
+      ∙ sym (ap (λ (t : Bool). t || touchedIn changes (endAt log s) (endAt log last) moved v)
+      (le-ltb s (slotStamp slots (headOf heads v)) (omega (arith, newest))))
 
 -- ---- the tests
 
@@ -89,12 +93,14 @@ pub count-few : (ws : List ℕ) → countOf ws ≤ length ws * 64
 unfolding countOf
 count-few ws = count-le (bitAt ws) (length ws * 64)
 
-pub datable-now : (clock slots heads log changes : List ℕ) (s v : ℕ) (c : Clock) → c ≡ clockIn clock → Datable slots heads log changes (stampIn clock) s v
+pub datable-now : (clock slots heads log changes : List ℕ) (s v : ℕ) (c : Clock) → c ≡ clockIn clock
+    → Datable slots heads log changes (stampIn clock) s v
     → Datable slots heads log changes (c .stamp .0) s v
 unfolding clockIn
 datable-now clock slots heads log changes s v c e f = subst (λ (x : Clock). Datable slots heads log changes (x .stamp .0) s v) (sym e) f
 
-module _ (clock slots heads log changes : List ℕ) (s v : ℕ) (moved : List ℕ) (c : Clock) (n : ℕ) (k : c ≡ clockIn clock) (m : n ≡ countOf moved) where
+module _ (clock slots heads log changes : List ℕ) (s v : ℕ) (moved : List ℕ) (c : Clock) (n : ℕ) (k : c ≡ clockIn clock)
+    (m : n ≡ countOf moved) where
   now : c .stamp .0 ≡ stampIn clock
   unfolding clockIn
   now = ap (λ (x : Clock). x .stamp .0) k

@@ -37,14 +37,16 @@ use Rattle.calls.specs.Calls.{own, tidyStores, tidyOf}
 use Rattle.calls.specs.Seats.{untouched, Serves}
 use Rattle.calls.specs.Enter.{whyOf, valuedBy}
 use Rattle.tidying.specs.declared.tidy.Plan.{Plan}
-use Rattle.tidying.specs.Tidy.{Datable, tidyTests, RowsPut, Puttable, Fillable, VersionPut, Tidyable, TidyReady, Plannable, planOf, movedIn, tidyClock, tidyLog, tidiedCells, Tidied, tidyCells, Tidies}
+use Rattle.tidying.specs.Tidy.{Datable, tidyTests, RowsPut, Puttable, Fillable, VersionPut, Tidyable, TidyReady, Plannable, planOf}
+use Rattle.tidying.specs.Tidy.{movedIn, tidyClock, tidyLog, tidiedCells, Tidied, tidyCells, Tidies}
 use Rattle.calls.proofs.Entered.{bare, Valued, valued-passed, valued-goes, valued-shows}
 use Rattle.calls.proofs.Serving.{idle, valued-refused}
 use Rattle.tidying.proofs.TidyMeets.{tests-meet, cells-meet}
 
 -- ---- the record and the clock
 
-pub counts-written : (clock c₁ c₂ c₃ : List ℕ) (stamp rows slots changes : ℕ) → c₁ ≡ putMoment clock stamp rows → c₂ ≡ putSlotsUsed c₁ slots → c₃ ≡ putChangesUsed c₂ changes
+pub counts-written : (clock c₁ c₂ c₃ : List ℕ) (stamp rows slots changes : ℕ) → c₁ ≡ putMoment clock stamp rows → c₂ ≡ putSlotsUsed c₁ slots
+    → c₃ ≡ putChangesUsed c₂ changes
     → c₃ ≡ set (set (set (set clock 2 stamp) 3 rows) 4 slots) 5 changes
 unfolding putMoment putSlotsUsed putChangesUsed
 counts-written clock c₁ c₂ c₃ stamp rows slots changes a b c =
@@ -71,12 +73,14 @@ module _ (clock : List ℕ) (c : Clock) (e : c ≡ clockIn clock) where
       unfolding later clockIn
       next-rows = ap (λ (x : Clock). x .rows .0) n
 
-      pub log-tidied : (log log′ : List ℕ) → log′ ≡ putRecord log (c .stamp .0) 2 (next .rows .0) (used + moved) → log′ ≡ tidyLog clock log moved
+      pub log-tidied : (log log′ : List ℕ) → log′ ≡ putRecord log (c .stamp .0) 2 (next .rows .0) (used + moved)
+          → log′ ≡ tidyLog clock log moved
       log-tidied log log′ q =
           q ∙ ap₂ (λ (k m : ℕ). putRecord log k 2 m (used + moved)) stamp-is next-rows
           ∙ ap (λ (m : ℕ). putRecord log (stampIn clock) 2 (rowsIn clock) (m + moved)) u
 
-      pub clock-tidied : (clock′ : List ℕ) → clock′ ≡ set (set (set (set clock 2 (next .stamp .0)) 3 (next .rows .0)) 4 (slots + 1)) 5 (used + moved)
+      pub clock-tidied : (clock′ : List ℕ) → clock′ ≡ set (set (set (set clock 2 (next .stamp .0)) 3 (next .rows .0)) 4 (slots + 1)) 5
+          (used + moved)
           → clock′ ≡ tidyClock clock moved
       clock-tidied clock′ q =
           q ∙ ap₂ (λ (k m : ℕ). set (set (set (set clock 2 k) 3 m) 4 (slots + 1)) 5 (used + moved)) next-stamp next-rows
@@ -154,7 +158,8 @@ module _ (clock slots words heads log changes moved : List ℕ) (s v : ℕ) (f :
           value-low = g .based .headed .value-low;
         }
 
-    pub tidy-writes : (p .next ≡ later (clockIn clock) (clockIn clock .rows)) × (6 ≤ length clock) × (2048 ≤ length log) × (stampIn clock < 512)
+    pub tidy-writes : (p .next ≡ later (clockIn clock) (clockIn clock .rows)) × (6 ≤ length clock) × (2048 ≤ length log)
+        × (stampIn clock < 512)
         × (changesIn clock + p .count ≤ 2048) × (slotsIn clock < 96)
     tidy-writes = (
       next-is,
@@ -168,7 +173,8 @@ module _ (clock slots words heads log changes moved : List ℕ) (s v : ℕ) (f :
     pub tidy-done : (z : ℕ) (clock′ slots′ words′ heads′ log′ changes′ : List ℕ) (r : Answer)
         → VersionPut slots words heads log changes (p .slot) (p .next .stamp .0) s v slots′ words′ heads′
         → RowsPut (rowsOf moved) (p .used) (p .to) v changes changes′ z
-        → (clock′ ≡ tidyClock clock (p .count)) × (log′ ≡ tidyLog clock log (p .count)) × (said r ≡ numbers ((stampIn clock + 1) ∷ p .count ∷ []))
+        → (clock′ ≡ tidyClock clock (p .count)) × (log′ ≡ tidyLog clock log (p .count))
+        × (said r ≡ numbers ((stampIn clock + 1) ∷ p .count ∷ []))
         → Tidied (tables clock slots words heads log changes) (tables clock′ slots′ words′ heads′ log′ changes′) s v moved r
     unfolding tidiedCells later clockIn
     tidy-done z clock′ slots′ words′ heads′ log′ changes′ r x y w = λ ts.
@@ -195,12 +201,18 @@ pub record Passing (clock : List ℕ) (moved : List ℕ) : Type 0 where
   pub places-low : changesIn clock + countOf moved ≤ 2048
   pub slot-low : slotsIn clock < 96
 
-pub passing : (clock slots heads log changes : List ℕ) (s v : ℕ) (moved : List ℕ) → firstOf (tidyTests clock slots heads log changes s v moved) ≡ none
+pub passing : (clock slots heads log changes : List ℕ) (s v : ℕ) (moved : List ℕ)
+    → firstOf (tidyTests clock slots heads log changes s v moved) ≡ none
     → Passing clock moved
 unfolding tidyTests
 passing clock slots heads log changes s v moved e =
     let p = all-fail (tidyTests clock slots heads log changes s v moved) e in
-    record { stamp-low = leb-false _ _ (p .1 .1 .0); places-low = ltb-false _ _ (p .1 .1 .1 .0); slot-low = leb-false _ _ (p .1 .1 .1 .1 .0) }
+    record {
+      stamp-low = leb-false _ _ (p .1 .1 .0);
+      places-low = ltb-false _ _ (p .1 .1 .1 .0);
+      slot-low =
+          leb-false _ _ (p .1 .1 .1 .1 .0);
+    }
 
 module _ (clock slots words heads log changes : List ℕ) (s v to : ℕ) (moved : List ℕ) (go : asked.Test) (a : to ≡ endAt log s)
     (m : moved ≡ vec (flippedIn changes 0 to v) 32) (q : whyOf go ≡ firstOf (tidyTests clock slots heads log changes s v moved)) where
@@ -266,7 +278,8 @@ unless-same (some n) t a b h = refl
 abbrev restOf : Tables → ℕ → ℕ → List Test
 restOf t n v =
     let x = session (meaning t) n in
-    nothingToMove (meaning t) x v ∷ isStale (meaning t) x v ∷ recordsFull (meaning t) ∷ changesFull (meaning t) (length (moved (meaning t .log) (startOf x) v))
+    nothingToMove (meaning t) x v ∷ isStale (meaning t) x v ∷ recordsFull (meaning t) ∷ changesFull (meaning t)
+    (length (moved (meaning t .log) (startOf x) v))
     ∷ slotsFull (meaning t) ∷ []
 
 module _ (clock slots words heads log changes : List ℕ) (x : Seat) (n v : ℕ) (test : asked.Test)
@@ -321,12 +334,14 @@ module _ (clock slots words heads log changes : List ℕ) (x : Seat) (n v : ℕ)
         let s = x .session .start .0 in
         let g = valued-goes t n x e (tidy n v) (restOf t n v) test v refl q h in
         let w = valued-shows t n x e (tidy n v) (restOf t n v) test v refl q h in
-        let o : ℕ → Outcome = λ k. outcome (stores t (tidyStores t k v)) [] (numbers ((stampIn (t .clock) + 1) ∷ length (moved (meaning t .log) k v) ∷ [])) in
+        let o : ℕ → Outcome = λ k. outcome (stores t (tidyStores t k v)) []
+        (numbers ((stampIn (t .clock) + 1) ∷ length (moved (meaning t .log) k v) ∷ [])) in
         let low : s ≤ stampIn clock = w .facts .start-old in
         let ts₀ = firstOf (tidyTests clock slots heads log changes s v (movedIn log changes s v)) in
         f ts
         ∙ unless-same ts₀ t (tidiedCells t s v (movedIn log changes s v)) (o s)
-        (λ z. cells-meet t (g .good) s low v (valued .value-low) (room-facts t (g .room) .words-room) (passing clock slots heads log changes s v (movedIn log changes s v) z .slot-low))
+        (λ z. cells-meet t (g .good) s low v (valued .value-low) (room-facts t (g .room) .words-room)
+        (passing clock slots heads log changes s v (movedIn log changes s v) z .slot-low))
         ∙ ap₂ (λ (r : Option ℕ) (k : ℕ). unless r t [] (o k))
         (tests-meet t (g .good) s low v (valued .value-low) (session (meaning t) n) (w .start-means) ∙ sym (g .rest-decides))
         (ap (λ (y : Session). y .start .0) (sym (w .own-there)))

@@ -8,7 +8,7 @@ use lib.Dec.{eqb, leb, ltb}
 use lib.ListN.{length, set}
 use Rattle.bits.specs.Bit.{bit, clearBit}
 use Rattle.bits.specs.Part.{putPart}
-use Rattle.bits.specs.Rows.{countBelow, rowsBelow, countOf, rowsOf}
+use Rattle.bits.specs.Rows.{rowsBelow, countOf, rowsOf}
 use Rattle.bits.specs.Vec.{vec}
 use Rattle.bits.specs.Words.{bitAt}
 use Rattle.rules.specs.State.{Change}

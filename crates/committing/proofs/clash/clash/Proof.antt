@@ -15,13 +15,15 @@ use Rattle.committing.proofs.clash.clash.Statement.{statement}
 use Rattle.committing.proofs.clash.clash.Tie as tie
 
 abbrev Inv-loop : tie.InvT-loop
-Inv-loop log changes s n stamp found₀ k from to i₀ found i = (i ≤ n) × (found ≡ false) × (recordHits log changes s k ≡ entriesHit (stretch (changeAt changes) from to) s i n)
+Inv-loop log changes s n stamp found₀ k from to i₀ found i = (i ≤ n) × (found ≡ false)
+    × (recordHits log changes s k ≡ entriesHit (stretch (changeAt changes) from to) s i n)
 
 abbrev μ-loop : tie.MeasureT-loop
 μ-loop log changes s n stamp found₀ k from to i₀ found i = n - i
 
 abbrev Inv-records : tie.InvT-records
-Inv-records log changes s n stamp found₀ k₀ found k = (found ≡ false) × (conflicts (tab (recordAt log changes) stamp) (s .start .0) (entries s) ≡ recordsHit log changes s k stamp)
+Inv-records log changes s n stamp found₀ k₀ found k = (found ≡ false)
+    × (conflicts (tab (recordAt log changes) stamp) (s .start .0) (entries s) ≡ recordsHit log changes s k stamp)
 
 abbrev μ-records : tie.MeasureT-records
 μ-records log changes s n stamp found₀ k₀ found k = stamp - k

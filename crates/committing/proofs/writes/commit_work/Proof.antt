@@ -6,7 +6,22 @@ use Rattle.committing.proofs.writes.commit_work.Statement.{statement}
 use Rattle.committing.proofs.writes.commit_work.Tie as tie
 
 returns : tie.Need-returns
-returns c = search (work-done, c .before .before .before .before .before .before .before .before .before .before .before .before .before .before .before .before .before .before .before .before .before .before .before .before .before .before .before .pre, c .before .before .before .before .before .before .before .before .before .before .before .before .before .before .before .before .before .before .before .clock-of .ensures, c .before .before .before .before .before .before .before .before .before .before .before .before .before .before .before .before .before .inserts .ensures, c .before .before .before .before .before .before .before .before .before .before .before .before .before .before .changes-used .ensures, c .before .before .before .before .before .before .before .before .before .write-changes .ensures, c .before .before .before .before .write-commit .ensures)
+returns c =
+    let p = c .before .before .before .before in
+    let q = p .before .before .before .before .before in
+    let r = q .before .before .before .before .before in
+    let s = r .before .before .before in
+    let t = s .before .before in
+    let u = t .before .before .before .before .before .before .before .before in
+    search (
+      work-done,
+      u .pre,
+      t .clock-of .ensures,
+      s .inserts .ensures,
+      r .changes-used .ensures,
+      q .write-changes .ensures,
+      p .write-commit .ensures,
+    )
 
 pub commit-work-spec : {M : Type 1} → statement M
 commit-work-spec =

@@ -13,13 +13,16 @@ use Rattle.committing.proofs.writes.write_rows.Statement.{statement}
 use Rattle.committing.proofs.writes.write_rows.Tie as tie
 
 abbrev Inv-loop : tie.InvT-loop
-Inv-loop clock slots words heads log changes₀ from s n p₀ i₀ changes p i = (i ≤ n) × (length changes ≡ length changes₀) × (p ≤ from + i) × RowsStored (newCells slots words heads log changes₀ (valuesIn clock) (s .start .0)) s from changes₀ changes i p
+Inv-loop clock slots words heads log changes₀ from s n p₀ i₀ changes p i =
+    (i ≤ n) × (length changes ≡ length changes₀) × (p ≤ from + i) × RowsStored
+    (newCells slots words heads log changes₀ (valuesIn clock) (s .start .0)) s from changes₀ changes i p
 
 abbrev μ-loop : tie.MeasureT-loop
 μ-loop clock slots words heads log changes₀ from s n p₀ i₀ changes p i = n - i
 
 loop-again : tie.Need-loop-again Inv-loop μ-loop
-loop-again c = ⊎-elim (λ w. (omega arith, search length-put, omega arith, search rows-more)) (λ w. (omega arith, search length-kept, omega arith, search rows-skip)) (c .if1 .came)
+loop-again c = ⊎-elim (λ w. (omega arith, search length-put, omega arith, search rows-more))
+    (λ w. (omega arith, search length-kept, omega arith, search rows-skip)) (c .if1 .came)
 
 pub write-rows-spec : {M : Type 1} → statement M
 write-rows-spec =

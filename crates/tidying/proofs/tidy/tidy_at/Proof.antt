@@ -6,7 +6,13 @@ use Rattle.tidying.proofs.tidy.tidy_at.Statement.{statement}
 use Rattle.tidying.proofs.tidy.tidy_at.Tie as tie
 
 tidy-work-requires : tie.Need-tidy-work-requires
-tidy-work-requires c κs = tidy-ready _ _ _ _ _ _ _ _ _ _ _ (c .before .before .before .before .before .before .before .before .before .before .before .before .before .before .before .before .before .end-at .ensures) (c .before .before .before .before .before .before .before .before .before .before .before .before .before .before .before .before .flips .ensures) (c .before .before .before .before .before .before .before .before .before .ready .ensures) (c .before .before .before .before .before .before .before .enum-told .given .1) (c .before .before .before .before .before .before .before .before .before .before .before .before .before .before .before .before .before .before .before .before .before .before .before .before .before .before .pre)
+tidy-work-requires c κs =
+    let p = c .before .before .before .before .before .before .before in
+    let q = p .before .before in
+    let r = q .before .before .before .before .before .before .before in
+    let s = r .before in
+    let t = s .before .before .before .before .before .before .before .before .before in
+    tidy-ready _ _ _ _ _ _ _ _ _ _ _ (s .end-at .ensures) (r .flips .ensures) (q .ready .ensures) (p .enum-told .given .1) (t .pre)
 
 pub tidy-at-spec : {M : Type 1} → statement M
 tidy-at-spec =

@@ -7,10 +7,21 @@ use Rattle.tidying.proofs.tidy.tidy_work.Statement.{statement}
 use Rattle.tidying.proofs.tidy.tidy_work.Tie as tie
 
 write-tidy-requires : tie.Need-write-tidy-requires
-write-tidy-requires c κs = tidy-writes _ _ _ _ _ _ _ _ _ (c .before .before .before .before .before .before .before .before .before .before .before .before .before .before .before .before .before .before .before .before .before .before .before .before .before .before .before .before .before .before .pre) _ (c .before .before .before .before .before .before .before .before .before .before .before .before .before .before .before .before .before .before .before .before .before .planned .ensures)
+write-tidy-requires c κs =
+    let o = c .before .before .before .before .before .before .before .before .before .before .before .before in
+    let p = o .before .before .before .before .before .before .before .before .before in
+    let q = p .before .before .before .before .before .before .before .before .before in
+    tidy-writes _ _ _ _ _ _ _ _ _ (q .pre) _ (p .planned .ensures)
 
 returns : tie.Need-returns
-returns c = tidy-done _ _ _ _ _ _ _ _ _ (c .before .before .before .before .before .before .before .before .before .before .before .before .before .before .before .before .before .before .before .before .before .before .before .before .before .before .before .before .before .before .before .before .before .before .before .pre) _ (c .before .before .before .before .before .before .before .before .before .before .before .before .before .before .before .before .before .before .before .before .before .before .before .before .before .before .planned .ensures) _ _ _ _ _ _ _ (c .before .before .before .before .write-tidy .result) (c .before .before .before .before .before .before .before .before .before .before .before .before .before .before .before .before .before .before .write-version .ensures) (c .before .before .before .before .before .before .before .before .before .write-moved .ensures) (c .before .before .before .before .write-tidy .ensures)
+returns c =
+    let p = c .before .before .before .before in
+    let q = p .before .before .before .before .before in
+    let r = q .before .before .before .before .before .before .before .before .before in
+    let s = r .before .before .before .before .before .before .before .before in
+    let t = s .before .before .before .before .before .before .before .before .before in
+    tidy-done _ _ _ _ _ _ _ _ _ (t .pre) _ (s .planned .ensures) _ _ _ _ _ _ _ (p .write-tidy .result) (r .write-version .ensures)
+    (q .write-moved .ensures) (p .write-tidy .ensures)
 
 pub tidy-work-spec : {M : Type 1} → statement M
 tidy-work-spec =

@@ -1,4 +1,5 @@
--- `tidy::touched` meets its contract. The invariant: what is asked of all the changes is asked of those from p on. The measure is what is left of them.
+-- `tidy::touched` meets its contract. The invariant: what is asked of all the changes is asked of those from p on.
+-- The measure is what is left of them.
 -- Assumes nothing.
 use borrow.Author.Needs.{needs}
 use Rattle.tidying.proofs.StaleLaws.{touched-none, touched-row, touched-set, touched-past}
@@ -13,9 +14,6 @@ Inv-loop changes from to moved v p₀ p = touchedIn changes from to moved (v .0)
 
 abbrev μ-loop : tie.MeasureT-loop
 μ-loop changes from to moved v p₀ p = to - p
-
-loop-again : tie.Need-loop-again Inv-loop μ-loop
-loop-again c = touched-past _ _ _ _ _ _ (c .before .before .before .before .before .before .before .before .before .loop .inv) (c .before .before .before .before .before .before .before .before .loop-test .taken) _ _ _ (c .before .before .before .before .before .before .before .change-row .ensures) (c .before .before .before .before .before .wide .ensures) (c .before .before .before .before .get .ensures) _ _ (c .before .before .change-set .ensures) (c .before .has .ensures) (c .before .before .before .if1 .left) (c .if2 .left)
 
 pub touched-spec : {M : Type 1} → statement M
 touched-spec =
@@ -33,5 +31,5 @@ touched-spec =
     (λ c. search touched-set)
     (λ c. search needs)
     (λ c. search needs)
-    loop-again
+    (λ c. search touched-past)
     (λ c. search touched-none))

@@ -10,13 +10,18 @@ use Rattle.tidying.proofs.tidy.write_moved.Statement.{statement}
 use Rattle.tidying.proofs.tidy.write_moved.Tie as tie
 
 abbrev Inv-loop : tie.InvT-loop
-Inv-loop changes₀ from to moved v p₀ i₀ changes p i = (i ≤ 32) × RowsPut (rowsBelow (bitAt moved) (i * 64)) from to (v .0) changes₀ changes p
+Inv-loop changes₀ from to moved v p₀ i₀ changes p i = (i ≤ 32) × RowsPut (rowsBelow (bitAt moved) (i * 64)) from to
+    (v .0) changes₀ changes p
 
 abbrev μ-loop : tie.MeasureT-loop
 μ-loop changes₀ from to moved v p₀ i₀ changes p i = 32 - i
 
 write-word-requires : tie.Need-write-word-requires Inv-loop μ-loop
-write-word-requires c κs = word-puttable _ _ _ _ _ _ _ _ _ (c .before .before .before .before .before .before .before .pre .1) (c .before .before .before .loop-test .taken) (c .narrow .ensures) (c .before .before .before .before .loop .inv .1) (c .before .before .before .before .before .before .before .pre .0)
+write-word-requires c κs =
+    let p = c .before .before .before in
+    let q = p .before in
+    let r = q .before .before .before in
+    word-puttable _ _ _ _ _ _ _ _ _ (r .pre .1) (p .loop-test .taken) (c .narrow .ensures) (q .loop .inv .1) (r .pre .0)
 
 pub write-moved-spec : {M : Type 1} → statement M
 write-moved-spec =

@@ -6,7 +6,17 @@ use Rattle.tidying.proofs.tidy.write_vector.Statement.{statement}
 use Rattle.tidying.proofs.tidy.write_vector.Tie as tie
 
 returns : tie.Need-returns
-returns c = vector-written _ _ _ _ _ _ _ _ _ _ _ _ _ _ (λ i. c .before .before .before .before .before .before .before .before .before .before .before .before .before .before .before .slice-known .given i .fits) (c .before .before .before .before .before .before .before .before .before .before .before .before .before .before .before .before .before .pre) (c .before .before .before .before .before .before .before .before .before .before .before .base-of .ensures .0) (c .before .before .before .before .before .before .before .before .before .before .before .base-of .ensures .1) (c .before .before .before .before .before .before .before .before .before .before .end-at .ensures) (c .before .before .before .before .before .before .before .before .before .flips .ensures) (c .before .before .before .before .before .before .before .slot-words .ensures) (c .before .before .fill .ensures) (c .before .before .before .before .before .before .wide .ensures)
+returns c =
+    let p = c .before .before .before .before .before .before in
+    let q = p .before in
+    let r = q .before .before in
+    let s = r .before in
+    let t = s .before in
+    let u = t .before .before .before .before in
+    let w = u .before .before in
+    vector-written _ _ _ _ _ _ _ _ _ _ _ _ _ _ (λ i. u .slice-known .given i .fits) (w .pre) (t .base-of .ensures .0)
+    (t .base-of .ensures .1) (s .end-at .ensures) (r .flips .ensures) (q .slot-words .ensures) (c .before .before .fill .ensures)
+    (p .wide .ensures)
 
 pub write-vector-spec : {M : Type 1} → statement M
 write-vector-spec =

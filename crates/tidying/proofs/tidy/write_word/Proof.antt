@@ -1,4 +1,5 @@
--- `tidy::write_word` meets its contract. The invariant: the rows of the first k bits are put, and x is what is left of the word. The measure is what is left of the 64 bits.
+-- `tidy::write_word` meets its contract. The invariant: the rows of the first k bits are put, and x is what is left of the word.
+-- The measure is what is left of the 64 bits.
 -- Assumes nothing.
 use Rattle.tidying.proofs.MovedLaws.{WordScan, next, put-length, scan-none, scan-end, next-lt, next-puttable, scan-more}
 use Rattle.tidying.specs.Tidy.{Puttable}
@@ -17,11 +18,18 @@ abbrev μ-loop : tie.MeasureT-loop
 bound : (c : tie.In-loop Inv-loop μ-loop) → c .before .loop .k + next (c .before .loop .x) < 64
 bound c = next-lt _ _ _ _ _ _ _ _ _ _ (c .before .before .before .fits .word .fits) (c .before .loop .inv) (c .loop-test .taken)
 
-room : (c : tie.In-loop Inv-loop μ-loop) → let a = c .before .before .before .args in Puttable (c .before .loop .changes) (c .before .loop .p) (a .to) (a .v .0) 1
-room c = next-puttable _ _ _ _ _ _ _ _ _ _ (c .before .before .before .fits .word .fits) (c .before .loop .inv) (c .loop-test .taken) (c .before .before .before .pre .0)
+room : (c : tie.In-loop Inv-loop μ-loop) → let a = c .before .before .before .args in
+    Puttable (c .before .loop .changes) (c .before .loop .p) (a .to) (a .v .0) 1
+room c =
+    let p = c .before .before .before in
+    next-puttable _ _ _ _ _ _ _ _ _ _ (p .fits .word .fits) (c .before .loop .inv) (c .loop-test .taken) (p .pre .0)
 
 loop-again : tie.Need-loop-again Inv-loop μ-loop
-loop-again c = let b = c .before .before .before .before in scan-more _ _ _ _ _ _ _ _ _ _ (b .before .before .before .fits .word .fits) (b .before .loop .inv) (b .loop-test .taken) _ _ (b .before .before .before .pre .0) (c .before .before .put-less .ensures)
+loop-again c =
+    let p = c .before .before .before .before in
+    let q = p .before .before .before in
+    scan-more _ _ _ _ _ _ _ _ _ _ (q .fits .word .fits) (p .before .loop .inv) (p .loop-test .taken) _ _ (q .pre .0)
+    (c .before .before .put-less .ensures)
 
 returns : tie.Need-returns Inv-loop μ-loop
 returns c = scan-end _ _ _ _ _ _ _ _ _ _ (c .before .before .before .fits .word .fits) (c .before .loop .inv) (c .loop-test .left)
