@@ -14,18 +14,20 @@ use mir.Val.{Fits}
 use Rattle.bits.specs.Tab.{tab}
 use Rattle.rules.specs.Limits.{maxSessions, maxRows, maxRecords, maxChanges}
 use Rattle.rules.specs.State.{Log, Session}
+use Rattle.rules.specs.Log.{above, changesOf}
 use Rattle.rules.specs.Lists.{inserts}
 use Rattle.rules.specs.Commit.{conflicts}
 use Rattle.rules.specs.Calls.{commit}
 use Rattle.rules.specs.Refusals.{firstOf, tests, isEmpty}
 use Rattle.rules.proofs.Tests.{all-fail}
 use Rattle.tables.specs.declared.clock.Clock.{Clock}
-use Rattle.tables.specs.Cells.{Tables, stampIn, rowsIn, changesIn}
+use Rattle.tables.specs.Cells.{Tables, stampIn, rowsIn, changesIn, endAt}
 use Rattle.tables.specs.Clock.{clockIn}
-use Rattle.tables.specs.Meaning.{recordAt, entryAt, entries}
+use Rattle.tables.specs.Meaning.{changeAt, recordAt, entryAt, entries}
+use Rattle.tables.specs.Stretch.{stretch}
 use Rattle.tables.specs.declared.session.Session as cells
-use Rattle.tables.proofs.Facts.{room-facts, parts, clock-limits, end-high}
-use Rattle.tables.proofs.Means.{rows-means, log-means, stamp-means, changes-means, length-entries}
+use Rattle.tables.proofs.Facts.{room-facts, parts, clock-limits, last-end, end-high}
+use Rattle.tables.proofs.Means.{rows-means, log-means, above-means, stamp-means, changes-means, length-entries}
 use Rattle.calls.specs.Outcome.{refusalAt}
 use Rattle.calls.specs.Opened.{Usable, OpenIn}
 use Rattle.committing.specs.Commit.{Searched, CommitAsked, commitTests, CommitReady}
@@ -138,6 +140,11 @@ module _ (clock slots words heads log changes : List ℕ) (x : cells.Session) (u
           last-low = l .few-records;
           count-low = u .count-low;
           ends-low = λ k h. omega (arith, end-high clock log (p .records-fit) k h, l .few-changes);
+          start-old = u .start-old;
+          one-stretch =
+              ap (λ (g : Log). changesOf (above g (x .start .0))) (sym (log-means t))
+              ∙ above-means t (p .records-fit) (x .start .0) (u .start-old)
+              ∙ ap (stretch (changeAt changes) (endAt log (x .start .0))) (sym (last-end clock log (p .records-fit)));
         };
       }
 

@@ -9,14 +9,14 @@ use Rattle.bits.specs.Tab.{tab}
 use Rattle.rules.specs.Commit.{conflicts}
 use Rattle.tables.specs.Stretch.{stretch}
 use Rattle.tables.specs.Meaning.{changeAt, recordAt, entries}
-use Rattle.committing.proofs.ClashLaws.{none-clash, recordHits, entriesHit, recordsHit, entries-on, entries-start, records-start}
+use Rattle.committing.proofs.ClashLaws.{none-clash, named, entriesHit, recordsHit, some-on, entries-start, records-start}
 use Rattle.committing.proofs.ClashLaws.{records-ended, records-on, records-met, end-low}
 use Rattle.committing.proofs.clash.clash.Statement.{statement}
 use Rattle.committing.proofs.clash.clash.Tie as tie
 
 abbrev Inv-loop : tie.InvT-loop
 Inv-loop log changes s n stamp found₀ k from to i₀ found i = (i ≤ n) × (found ≡ false)
-    × (recordHits log changes s k ≡ entriesHit (stretch (changeAt changes) from to) s i n)
+    × (named s (recordAt log changes k) ≡ entriesHit (stretch (changeAt changes) from to) s i n)
 
 abbrev μ-loop : tie.MeasureT-loop
 μ-loop log changes s n stamp found₀ k from to i₀ found i = n - i
@@ -37,7 +37,7 @@ clash-spec =
     Inv-records
     μ-records
     (λ c κs. search needs)
-    (λ c. search (none-clash, c .before .none-named .ensures))
+    (λ c. search none-clash)
     (λ c κs. search needs)
     (λ c. (refl, search records-start))
     (λ c κs. search needs)
@@ -47,7 +47,7 @@ clash-spec =
     (λ c κs. (search needs, search end-low, search needs))
     (λ c. omega arith)
     (λ c. omega arith)
-    (λ c. (omega arith, search needs, search entries-on))
+    (λ c. (omega arith, search needs, search some-on))
     (λ c. omega arith)
     (λ c. omega arith)
     (λ c. (search needs, search records-on))

@@ -6,7 +6,7 @@ use native.Mathlib.Omega.{arith}
 use borrow.Author.Needs.{needs}
 use Rattle.tables.specs.Meaning.{changeAt}
 use Rattle.tables.specs.Stretch.{stretch}
-use Rattle.committing.proofs.ClashLaws.{entriesHit, entries-on, entries-met, entries-ended}
+use Rattle.committing.proofs.ClashLaws.{entriesHit, some-on, some-met, some-ended}
 use Rattle.committing.proofs.clash.entries_named.Statement.{statement}
 use Rattle.committing.proofs.clash.entries_named.Tie as tie
 
@@ -25,8 +25,8 @@ entries-named-spec =
     μ-loop
     (λ c. refl)
     (λ c κs. search needs)
-    (λ c. search entries-met)
+    (λ c. search some-met)
     (λ c. omega arith)
     (λ c. omega arith)
-    (λ c. search entries-on)
-    (λ c. search entries-ended))
+    (λ c. search some-on)
+    (λ c. search some-ended))
