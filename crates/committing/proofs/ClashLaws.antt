@@ -109,12 +109,12 @@ module _ (log changes : List ℕ) (x : Session) where
         conflict-by-records (tab (recordAt log changes) last) (x .start .0) (entries x)
         ∙ ap (someOf (named x)) (drop-tab (recordAt log changes) (x .start .0) last (s .start-old))
 
-    -- what is needed at record k + 1, and at the last
-    pub end-low : (k to : ℕ) → k < last → to ≡ endAt log (k + 1) → to ≤ 2048
-    end-low k to l e = omega (arith, s .ends-low (k + 1) (omega arith))
+    -- an end that is low: at record k, and at the one after
+    pub end-low : (k to : ℕ) → k ≤ last → to ≡ endAt log k → to ≤ 2048
+    end-low k to l e = omega (arith, s .ends-low k l)
 
-    pub last-low : (to : ℕ) → to ≡ endAt log last → to ≤ 2048
-    last-low to e = omega (arith, s .ends-low last (omega arith))
+    pub next-low : (k to : ℕ) → k < last → to ≡ endAt log (k + 1) → to ≤ 2048
+    next-low k to l e = end-low (k + 1) to (omega arith) e
 
     -- ---- the search at one go
 

@@ -1,7 +1,7 @@
 -- `clash::any_named` meets its contract: the changes of the records after the start are one stretch.
 -- Assumes nothing.
 use borrow.Author.Needs.{needs}
-use Rattle.committing.proofs.ClashLaws.{last-low, whole-named}
+use Rattle.committing.proofs.ClashLaws.{end-low, whole-named}
 use Rattle.committing.proofs.clash.any_named.Statement.{statement}
 use Rattle.committing.proofs.clash.any_named.Tie as tie
 
@@ -12,5 +12,5 @@ any-named-spec =
     (λ c κs. search needs)
     (λ c κs. search needs)
     (λ c κs. search needs)
-    (λ c κs. (search needs, search last-low, search needs))
+    (λ c κs. (search needs, search (end-low, needs), search needs))
     (λ c. search whole-named))

@@ -10,7 +10,7 @@ use Rattle.rules.specs.Commit.{conflicts}
 use Rattle.tables.specs.Stretch.{stretch}
 use Rattle.tables.specs.Meaning.{changeAt, recordAt, entries}
 use Rattle.committing.proofs.ClashLaws.{none-clash, named, entriesHit, recordsHit, some-on, entries-start, records-start}
-use Rattle.committing.proofs.ClashLaws.{records-ended, records-on, records-met, end-low}
+use Rattle.committing.proofs.ClashLaws.{records-ended, records-on, records-met, next-low}
 use Rattle.committing.proofs.clash.clash.Statement.{statement}
 use Rattle.committing.proofs.clash.clash.Tie as tie
 
@@ -44,7 +44,7 @@ clash-spec =
     (λ c. omega arith)
     (λ c κs. search needs)
     (λ c. (omega arith, search needs, search entries-start))
-    (λ c κs. (search needs, search end-low, search needs))
+    (λ c κs. (search needs, search next-low, search needs))
     (λ c. omega arith)
     (λ c. omega arith)
     (λ c. (omega arith, search needs, search some-on))
