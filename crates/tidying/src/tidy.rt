@@ -11,9 +11,8 @@ ghost use mathlib.Core.Path.{_≡_};
 ghost use mathlib.Core.List.{[], _∷_};
 ghost use Prim.Native.Nat.{_+_, _*_, _<_, _≤_};
 ghost use lib.ListN.{length, set};
-ghost use Rattle.bits.specs.Bit.{bit};
 ghost use Rattle.bits.specs.Part.{putPart};
-ghost use Rattle.bits.specs.Rows.{countBelow, countOf, rowsOf};
+ghost use Rattle.bits.specs.Rows.{countOf, rowsOf};
 ghost use Rattle.bits.specs.Vec.{vec};
 ghost use Rattle.bits.specs.Words.{xorWords};
 ghost use Rattle.rules.specs.Refusals.{firstOf};
@@ -26,7 +25,7 @@ ghost use Rattle.calls.specs.Said.{said, numbers};
 ghost use Rattle.calls.specs.Calls.{tidyOf};
 ghost use Rattle.calls.specs.Seats.{Serves, untouched};
 ghost use Rattle.calls.specs.Enter.{whyOf};
-ghost use Rattle.tidying.specs.Tidy.{touchedIn, staleAt, Datable, tidyTests, RowsPut, wordRows, Puttable, Fillable};
+ghost use Rattle.tidying.specs.Tidy.{touchedIn, staleAt, Datable, tidyTests, RowsPut, Puttable, Fillable};
 ghost use Rattle.tidying.specs.Tidy.{VersionPut, Tidyable, TidyReady, Plannable, planOf, tidyClock, tidyLog};
 ghost use Rattle.tidying.specs.Tidy.{Tidied, Tidies};
 
@@ -89,26 +88,7 @@ fn put_less(changes: &mut [u32], p: usize, to: usize, row: Row, v: Value) -> usi
     p + 1
 }
 
-// The changes of the moved rows of a word, ascending, are written from `from` on. Where they end.
-fn write_word(changes: &mut [u32], from: usize, to: usize, word: u64, base: u32, v: Value) -> usize
-    requires { ⌜ Puttable (now changes) from to (v .0) (countBelow (bit word) 64) × (base ≤ 2048) ⌝ }
-    ensures { λ r. ⌜ RowsPut (wordRows base word 64) from to (v .0) (now (changes .entry)) (now (changes .exit)) r ⌝ }
-{
-    let mut p = from;
-    let mut x = word;
-    let mut k: u32 = 0;
-    while x != 0 {
-        let t = u64::trailing_zeros(x);
-        k += t;
-        let row = base + k;
-        p = put_less(changes, p, to, Row(row), v);
-        k += 1;
-        x = (x >> t) >> 1;
-    }
-    p
-}
-
-// The changes of the moved rows, ascending, are written from `from` on.
+// The changes of the moved rows, ascending, are written from `from` on: a word at a time, from one set bit to the next.
 fn write_moved(changes: &mut [u32], from: usize, to: usize, moved: &[u64], v: Value)
     requires { ⌜ Puttable (now changes) from to (v .0) (countOf (now moved)) × (length (now moved) ≡ 32) ⌝ }
     ensures { λ _. ⌜ RowsPut (rowsOf (now (moved .entry))) from to (v .0) (now (changes .entry)) (now (changes .exit))
@@ -117,7 +97,16 @@ fn write_moved(changes: &mut [u32], from: usize, to: usize, moved: &[u64], v: Va
     let mut p = from;
     let mut i: usize = 0;
     while i < 32 {
-        p = write_word(changes, p, to, moved[i], bits::narrow(i * 64), v);
+        let base = bits::narrow(i * 64);
+        let mut x = moved[i];
+        let mut k: u32 = 0;
+        while x != 0 {
+            let t = u64::trailing_zeros(x);
+            k += t;
+            p = put_less(changes, p, to, Row(base + k), v);
+            k += 1;
+            x = (x >> t) >> 1;
+        }
         i += 1;
     }
 }
