@@ -50,44 +50,32 @@ pub counts-written : (clock c₁ c₂ c₃ : List ℕ) (stamp rows slots changes
     → c₃ ≡ set (set (set (set clock 2 stamp) 3 rows) 4 slots) 5 changes
 unfolding putMoment putSlotsUsed putChangesUsed
 counts-written clock c₁ c₂ c₃ stamp rows slots changes a b c =
-    c ∙ ap (λ (l : List ℕ). set l 5 changes) (b ∙ ap (λ (l : List ℕ). set l 4 slots) a)
+    rw (c, b, a)
 
 module _ (clock : List ℕ) (c : Clock) (e : c ≡ clockIn clock) where
-  stamp-is : c .stamp .0 ≡ stampIn clock
-  unfolding clockIn
-  stamp-is = ap (λ (x : Clock). x .stamp .0) e
-
   pub stamp-low : stampIn clock < 512 → c .stamp .0 < 512
-  stamp-low h = omega (arith, stamp-is)
+  unfolding clockIn
+  stamp-low h = rw e h
 
   pub stamp-fits : stampIn clock < 512 → c .stamp .0 < 4294967295
-  stamp-fits h = omega (arith, stamp-is)
+  unfolding clockIn
+  stamp-fits h = rw e (omega arith)
 
-  module _ (moved used slots : ℕ) (u : used ≡ changesIn clock) (s : slots ≡ slotsIn clock) where
-    module _ (next : Clock) (n : next ≡ later (clockIn clock) (clockIn clock .rows)) where
-      next-stamp : next .stamp .0 ≡ stampIn clock + 1
-      unfolding later clockIn
-      next-stamp = ap (λ (x : Clock). x .stamp .0) n
+  module _ (moved used slots : ℕ) (u : used ≡ changesIn clock) (s : slots ≡ slotsIn clock) (next : Clock)
+      (n : next ≡ later (clockIn clock) (clockIn clock .rows)) where
+    pub log-tidied : (log log′ : List ℕ) → log′ ≡ putRecord log (c .stamp .0) 2 (next .rows .0) (used + moved)
+        → log′ ≡ tidyLog clock log moved
+    unfolding later clockIn
+    log-tidied log log′ q = rw (q, e, n, u)
 
-      next-rows : next .rows .0 ≡ rowsIn clock
-      unfolding later clockIn
-      next-rows = ap (λ (x : Clock). x .rows .0) n
+    pub clock-tidied : (clock′ : List ℕ)
+        → clock′ ≡ set (set (set (set clock 2 (next .stamp .0)) 3 (next .rows .0)) 4 (slots + 1)) 5 (used + moved) → clock′ ≡ tidyClock clock moved
+    unfolding later clockIn
+    clock-tidied clock′ q = rw (q, n, s, u)
 
-      pub log-tidied : (log log′ : List ℕ) → log′ ≡ putRecord log (c .stamp .0) 2 (next .rows .0) (used + moved)
-          → log′ ≡ tidyLog clock log moved
-      log-tidied log log′ q =
-          q ∙ ap₂ (λ (k m : ℕ). putRecord log k 2 m (used + moved)) stamp-is next-rows
-          ∙ ap (λ (m : ℕ). putRecord log (stampIn clock) 2 (rowsIn clock) (m + moved)) u
-
-      pub clock-tidied : (clock′ : List ℕ) → clock′ ≡ set (set (set (set clock 2 (next .stamp .0)) 3 (next .rows .0)) 4 (slots + 1)) 5
-          (used + moved)
-          → clock′ ≡ tidyClock clock moved
-      clock-tidied clock′ q =
-          q ∙ ap₂ (λ (k m : ℕ). set (set (set (set clock 2 k) 3 m) 4 (slots + 1)) 5 (used + moved)) next-stamp next-rows
-          ∙ ap₂ (λ (k m : ℕ). set (set (set (set clock 2 (stampIn clock + 1)) 3 (rowsIn clock)) 4 (k + 1)) 5 (m + moved)) s u
-
-      pub tidy-said : said (At (next .stamp) (record { 0 = moved })) ≡ numbers ((stampIn clock + 1) ∷ moved ∷ [])
-      tidy-said = ap (λ (k : ℕ). numbers (k ∷ moved ∷ [])) next-stamp
+    pub tidy-said : said (At (next .stamp) (record { 0 = moved })) ≡ numbers ((stampIn clock + 1) ∷ moved ∷ [])
+    unfolding later clockIn
+    tidy-said = rw n
 
 -- ---- all tables after it
 
@@ -117,58 +105,36 @@ module _ (clock slots words heads log changes moved : List ℕ) (s v : ℕ) (f :
       }
 
   module _ (p : Plan) (e : p ≡ planOf clock log s moved) where
-    slot-is : p .slot ≡ slotsIn clock
-    unfolding planOf
-    slot-is = ap (λ (x : Plan). x .slot) e
-
-    used-is : p .used ≡ changesIn clock
-    unfolding planOf
-    used-is = ap (λ (x : Plan). x .used) e
-
-    to-is : p .to ≡ endAt log s
-    unfolding planOf
-    to-is = ap (λ (x : Plan). x .to) e
-
-    count-is : p .count ≡ countOf moved
-    unfolding planOf
-    count-is = ap (λ (x : Plan). x .count) e
-
-    next-is : p .next ≡ later (clockIn clock) (clockIn clock .rows)
-    unfolding planOf
-    next-is = ap (λ (x : Plan). x .next) e
-
     pub version-fillable : Fillable slots words heads log changes (p .slot) s v
+    unfolding planOf
     version-fillable =
         let g = f .tidyable in
         record {
           based = g .based;
           words-room = g .room .words-room;
-          slot-low = omega (arith, f .slot-low, slot-is);
+          slot-low = rw e (f .slot-low);
           start-low = omega (arith, g .start-old, f .stamp-low);
           rows = g .rows;
         }
 
     pub moved-puttable : Puttable changes (p .used) (p .to) v (countOf moved)
+    unfolding planOf
     moved-puttable =
         let g = f .tidyable in
         record {
           changes-room = g .room .changes-room;
-          old-before = omega (arith, g .end-old, to-is, used-is);
-          places-low = omega (arith, f .places-low, used-is);
+          old-before = rw e (g .end-old);
+          places-low = rw e (f .places-low);
           value-low = g .based .headed .value-low;
         }
 
     pub tidy-writes : (p .next ≡ later (clockIn clock) (clockIn clock .rows)) × (6 ≤ length clock) × (2048 ≤ length log)
         × (stampIn clock < 512)
         × (changesIn clock + p .count ≤ 2048) × (slotsIn clock < 96)
-    tidy-writes = (
-      next-is,
-      f .tidyable .room .clock-room,
-      f .tidyable .room .log-room,
-      f .stamp-low,
-      omega (arith, f .places-low, count-is),
-      f .slot-low,
-    )
+    unfolding planOf
+    tidy-writes =
+        let g = f .tidyable .room in
+        (rw e refl, g .clock-room, g .log-room, f .stamp-low, rw e (f .places-low), f .slot-low)
 
     pub tidy-done : (z : ℕ) (clock′ slots′ words′ heads′ log′ changes′ : List ℕ) (r : Answer)
         → VersionPut slots words heads log changes (p .slot) (p .next .stamp .0) s v slots′ words′ heads′
@@ -176,43 +142,20 @@ module _ (clock slots words heads log changes moved : List ℕ) (s v : ℕ) (f :
         → (clock′ ≡ tidyClock clock (p .count)) × (log′ ≡ tidyLog clock log (p .count))
         × (said r ≡ numbers ((stampIn clock + 1) ∷ p .count ∷ []))
         → Tidied (tables clock slots words heads log changes) (tables clock′ slots′ words′ heads′ log′ changes′) s v moved r
-    unfolding tidiedCells later clockIn
+    unfolding tidiedCells planOf later clockIn
     tidy-done z clock′ slots′ words′ heads′ log′ changes′ r x y w = λ ts.
-        rw (
-          w .0,
-          w .1,
-          w .2,
-          count-is,
-          x .slots-are,
-          x .words-are,
-          x .heads-are,
-          y .stored,
-          slot-is,
-          used-is,
-          to-is,
-          next-is,
-        )
+        rw (w .0, w .1, w .2, x .slots-are, x .words-are, x .heads-are, y .stored, e)
 
 -- ---- its own tests
 
 -- what passing them says
-pub record Passing (clock : List ℕ) (moved : List ℕ) : Type 0 where
-  pub stamp-low : stampIn clock < 512
-  pub places-low : changesIn clock + countOf moved ≤ 2048
-  pub slot-low : slotsIn clock < 96
-
 pub passing : (clock slots heads log changes : List ℕ) (s v : ℕ) (moved : List ℕ)
     → firstOf (tidyTests clock slots heads log changes s v moved) ≡ none
-    → Passing clock moved
+    → (stampIn clock < 512) × (changesIn clock + countOf moved ≤ 2048) × (slotsIn clock < 96)
 unfolding tidyTests
 passing clock slots heads log changes s v moved e =
     let p = all-fail (tidyTests clock slots heads log changes s v moved) e in
-    record {
-      stamp-low = leb-false _ _ (p .1 .1 .0);
-      places-low = ltb-false _ _ (p .1 .1 .1 .0);
-      slot-low =
-          leb-false _ _ (p .1 .1 .1 .1 .0);
-    }
+    (leb-false _ _ (p .1 .1 .0), ltb-false _ _ (p .1 .1 .1 .0), leb-false _ _ (p .1 .1 .1 .1 .0))
 
 module _ (clock slots words heads log changes : List ℕ) (s v to : ℕ) (moved : List ℕ) (go : asked.Test) (a : to ≡ endAt log s)
     (m : moved ≡ vec (flippedIn changes 0 to v) 32) (q : whyOf go ≡ firstOf (tidyTests clock slots heads log changes s v moved)) where
@@ -236,7 +179,7 @@ module _ (clock slots words heads log changes : List ℕ) (s v to : ℕ) (moved 
     pub tidy-ready : Tidyable clock slots words heads log changes s v → TidyReady clock slots words heads log changes s v moved
     tidy-ready f =
         let p = passing clock slots heads log changes s v moved (sym q ∙ ap whyOf h) in
-        record { tidyable = f; stamp-low = p .stamp-low; places-low = p .places-low; slot-low = p .slot-low }
+        record { tidyable = f; stamp-low = p .0; places-low = p .1; slot-low = p .2 }
 
     pub tidy-answers : (after : List Session → Tables) (r : Answer) → Tidied lent after s v moved r → Tidies lent after s v r
     unfolding tidyCells unless
@@ -308,15 +251,7 @@ module _ (clock slots words heads log changes : List ℕ) (x : Seat) (n v : ℕ)
         let k = clock-limits clock (p .clock-fits) in
         let r = room-facts t (y .room) in
         record {
-          room =
-              record {
-                clock-room = r .clock-room;
-                slots-room = r .slots-room;
-                words-room = r .words-room;
-                heads-room = r .heads-room;
-                log-room = r .log-room;
-                changes-room = r .changes-room;
-              };
+          room = search;
           based = based t (y .room) (y .good) s (y .start-old) v (y .value-low);
           rows = rows-low t (y .room) (y .good) s (y .start-old) 0;
           start-old = y .start-old;
@@ -341,7 +276,7 @@ module _ (clock slots words heads log changes : List ℕ) (x : Seat) (n v : ℕ)
         f ts
         ∙ unless-same ts₀ t (tidiedCells t s v (movedIn log changes s v)) (o s)
         (λ z. cells-meet t (g .good) s low v (valued .value-low) (room-facts t (g .room) .words-room)
-        (passing clock slots heads log changes s v (movedIn log changes s v) z .slot-low))
+        (passing clock slots heads log changes s v (movedIn log changes s v) z .2))
         ∙ ap₂ (λ (r : Option ℕ) (k : ℕ). unless r t [] (o k))
         (tests-meet t (g .good) s low v (valued .value-low) (session (meaning t) n) (w .start-means) ∙ sym (g .rest-decides))
         (ap (λ (y : Session). y .start .0) (sym (w .own-there)))
