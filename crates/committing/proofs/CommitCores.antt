@@ -1,7 +1,6 @@
 -- Commit on the lent tables: its changes are the rules', and what each end of `commit_now` and of the core comes to.
 -- Assumes nothing.
 use mathlib.Core.Path.{_≡_, refl, sym, ap, ap₂, _∙_}
-use mathlib.Core.Bool.{Bool, cond}
 use mathlib.Core.Option.{Option, none, some}
 use mathlib.Core.List.{List, [], _∷_, _++_}
 use Prim.Native.Nat.{ℕ, suc, _+_, _≤_}
@@ -9,7 +8,6 @@ use native.Mathlib.Numerals.{add-one}
 use native.Mathlib.Omega.{arith}
 use borrow.Author.Tests.{lt-ltb}
 use lib.ListN.{length, set}
-use Rattle.bits.specs.Bit.{flipBit}
 use Rattle.rules.specs.State.{Change, Entry, alter, add, session}
 use Rattle.rules.specs.Lists.{inserts}
 use Rattle.rules.specs.Commit.{toggled, newSet, rowChanges, insertChanges, commitChanges}
@@ -54,22 +52,19 @@ use Rattle.committing.proofs.CommitTests.{commit-ready, commit-refusal}
 toggled-in : (C m : ℕ) (o : Option ℕ) → C ≤ 32 → Within C o → toggledIn m o ≡ toggled m o
 unfolding toggledIn toggled
 toggled-in C m none h w = refl
-toggled-in C m (some a) h w = ap (λ (b : Bool). cond b (flipBit m a) m) (lt-ltb a 32 (omega arith))
+toggled-in C m (some a) h w = rw (lt-ltb a 32 (omega arith))
 
 rows-alike : (C n : ℕ) (f g : ℕ → Option ℕ → ℕ) (es : List Entry) → EntriesFit C n es
     → ((r : ℕ) (b : Option ℕ) → Within C b → f r b ≡ g r b) → rowChanges f es ≡ rowChanges g es
 rows-alike C n f g [] fit h = refl
-rows-alike C n f g (alter r b ∷ es) fit h =
-    ap₂ (λ (m : ℕ) (cs : List Change). record { row = r; flips = m } ∷ cs) (h r b (fit .1)) (rows-alike C n f g es (fit .2) h)
+rows-alike C n f g (alter r b ∷ es) fit h = rw (h r b (fit .1), rows-alike C n f g es (fit .2) h)
 rows-alike C n f g (add v ∷ es) fit h = rows-alike C n f g es (fit .1) h
 
 inserts-alike : (C n : ℕ) (es : List Entry) (r : ℕ) → C ≤ 32 → EntriesFit C n es → insertCells r (inserts es) ≡ insertChanges r (inserts es)
 unfolding toggled
 inserts-alike C n [] r h fit = refl
 inserts-alike C n (alter q b ∷ es) r h fit = inserts-alike C n es r h (fit .2)
-inserts-alike C n (add v ∷ es) r h fit =
-    ap₂ (λ (m : ℕ) (cs : List Change). record { row = r; flips = m } ∷ cs) (toggled-in C 0 (some v) h (fit .0))
-    (ap (λ (k : ℕ). insertCells k (inserts es)) (add-one r) ∙ inserts-alike C n es (suc r) h (fit .1))
+inserts-alike C n (add v ∷ es) r h fit = rw (toggled-in C 0 (some v) h (fit .0), add-one, inserts-alike C n es (suc r) h (fit .1))
 
 module _ (t : Tables) (n : ℕ) (x : Session) (o : OpenIn t n x) where
   few : valuesIn (t .clock) ≤ 32

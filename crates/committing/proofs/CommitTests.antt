@@ -1,10 +1,10 @@
 -- The refusals of commit on the cells, one by one, and as the rules judge them.
 -- Assumes nothing.
-use mathlib.Core.Path.{_≡_, refl, sym, ap, ap₂, _∙_}
-use mathlib.Core.Bool.{Bool, true, false, cond}
+use mathlib.Core.Path.{_≡_, refl, sym, ap, _∙_}
+use mathlib.Core.Bool.{Bool, true, false}
 use mathlib.Core.Option.{Option, none, some}
-use mathlib.Core.List.{List, [], _∷_, _++_}
-use Prim.Native.Nat.{ℕ, zero, suc, _+_, _≤_, _<_}
+use mathlib.Core.List.{List, [], _∷_}
+use Prim.Native.Nat.{ℕ, _+_, _≤_, _<_}
 use native.Mathlib.Omega.{arith}
 use borrow.Author.Tests.{eq-eqb, ne-eqb, lt-ltb, le-ltb, le-leb, lt-leb, leb-false, ltb-false}
 use lib.Dec.{eqb, leb, ltb, eqb·suc-zero}
@@ -21,9 +21,9 @@ use Rattle.rules.specs.Calls.{commit}
 use Rattle.rules.specs.Refusals.{firstOf, tests, isEmpty}
 use Rattle.rules.proofs.Tests.{all-fail}
 use Rattle.tables.specs.declared.clock.Clock.{Clock}
-use Rattle.tables.specs.Cells.{Tables, stampIn, rowsIn, changesIn, endAt}
+use Rattle.tables.specs.Cells.{Tables, stampIn, changesIn, endAt}
 use Rattle.tables.specs.Clock.{clockIn}
-use Rattle.tables.specs.Meaning.{changeAt, recordAt, entryAt, entries}
+use Rattle.tables.specs.Meaning.{changeAt, recordAt, entries}
 use Rattle.tables.specs.Stretch.{stretch}
 use Rattle.tables.specs.declared.session.Session as cells
 use Rattle.tables.proofs.Facts.{room-facts, parts, clock-limits, last-end, end-high}

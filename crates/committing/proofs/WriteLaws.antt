@@ -32,7 +32,6 @@ use Rattle.history.specs.Read.{standingOf, readCells, readAfter, Readable, Read
 use Rattle.history.proofs.ReadLaws.{read-is}
 use Rattle.history.proofs.Kept.{set-kept, read-kept}
 use Rattle.calls.specs.declared.answers.Answer.the-variants.{At}
-use Rattle.calls.specs.Said.{numbers}
 use Rattle.calls.specs.Stores.{putChanges}
 use Rattle.committing.specs.Commit.{toggledIn, newCells, insertCells, RowReady, RowsReady, RowsStored, InsertsReady, InsertsStored}
 use Rattle.committing.specs.Commit.{Recorded}
@@ -79,9 +78,7 @@ pub row-written : (clock slots words heads log changes changes′ : List ℕ) (x
     → changes′ ≡ putChange changes p row set
     → changes′ ≡ putChange changes p (getD (x .at) i 0) (newCells slots words heads log changes (valuesIn clock) (x .start .0)
     (getD (x .at) i 0) (targetOf (getD (x .to) i 0)))
-row-written clock slots words heads log changes changes′ x i p row set e q z =
-    z ∙ ap₂ (putChange changes p) e (q ∙ ap (λ (r : ℕ). newCells slots words heads log changes (valuesIn clock) (x .start .0) r
-    (targetOf (getD (x .to) i 0))) e)
+row-written clock slots words heads log changes changes′ x i p row set e q z = rw (z, q, e)
 
 -- ---- the table's length stays
 
@@ -89,9 +86,6 @@ module _ (changes changes′ changes″ : List ℕ) (e : length changes′ ≡ l
   pub length-put : (stored : List ℕ) (p row set : ℕ) → changes″ ≡ stored → stored ≡ putChange changes′ p row set
       → length changes″ ≡ length changes
   length-put stored p row set y z = ap length (y ∙ z) ∙ length-change changes′ p row set ∙ e
-
-  pub length-kept : changes″ ≡ changes′ → length changes″ ≡ length changes
-  length-kept z = ap length z ∙ e
 
 -- ---- the changes of all rows
 
@@ -146,10 +140,8 @@ module _ (clock slots words heads log changes : List ℕ) (x : Session) (from : 
         let b = targetOf (getD (x .to) i 0) in
         record {
           stored =
-              y ∙ w ∙ ap (putChange changes′ p row) (new-kept (omega arith) row b)
-              ∙ ap₂ (λ (c : List ℕ) (j : ℕ). putChange c j row (sets row b)) (s .stored) (s .place)
-              ∙ sym (changes-snoc changes from cs (record { row = row; flips = sets row b }))
-              ∙ ap (putChanges changes from) (sym (rows-row x i old sets));
+              rw (y, w, new-kept (omega arith) row b, s .stored, s .place, rows-row x i old sets)
+              (sym (changes-snoc changes from cs (record { row = row; flips = sets row b })));
           place =
               u ∙ omega (
                 arith,
@@ -163,19 +155,14 @@ module _ (clock slots words heads log changes : List ℕ) (x : Session) (from : 
     pub rows-skip : (changes″ : List ℕ) (p′ : ℕ) → getD (x .at) i 0 ≡ 65535 → changes″ ≡ changes′ → p′ ≡ p
         → RowsStored sets x from changes changes″ (i + 1) p′
     rows-skip changes″ p′ new w u = record {
-      stored = w ∙ s .stored ∙ ap (putChanges changes from) (sym (rows-new x i new sets));
-      place = u ∙ s .place ∙ ap (λ (cs : List Change). from + length cs) (sym (rows-new x i new sets));
+      stored = rw (w, s .stored, rows-new x i new sets);
+      place = rw (u, s .place, rows-new x i new sets);
     }
 
     pub rows-all : n ≤ i → i ≤ n → RowsStored sets x from changes changes′ (x .count) p
     rows-all l h = let z : i ≡ x .count = omega arith in subst (λ (k : ℕ). RowsStored sets x from changes changes′ k p) z s
 
 -- ---- the changes of the inserts
-
-pub insert-written : (changes changes′ : List ℕ) (x : Session) (i p row set : ℕ) (v : Value) → v .0 ≡ getD (x .to) i 0
-    → set ≡ toggledIn 0 (standingOf (Holds v))
-    → changes′ ≡ putChange changes p row set → changes′ ≡ putChange changes p row (toggledIn 0 (some (getD (x .to) i 0)))
-insert-written changes changes′ x i p row set v e q z = z ∙ ap (putChange changes p row) (q ∙ ap (λ (k : ℕ). toggledIn 0 (some k)) e)
 
 pub length-insertCells : (n : ℕ) (vs : List ℕ) → length (insertCells n vs) ≡ length vs
 length-insertCells n [] = refl
@@ -225,14 +212,8 @@ module _ (changes : List ℕ) (x : Session) (from rows : ℕ) where
         let one = length-append sofar (to ∷ []) in
         record {
           stored =
-              y ∙ w
-              ∙ ap₂ (λ (c : List ℕ) (j : ℕ). putChange c j (row .0) (toggledIn 0 (some to))) (s .stored)
-              (s .place ∙ ap (λ (k : ℕ). from + k) (sym (length-insertCells rows sofar)))
-              ∙ ap (λ (a : ℕ). putChange (putChanges changes from (insertCells rows sofar)) (from + length (insertCells rows sofar)) a
-              (toggledIn 0 (some to))) (s .next-row)
-              ∙ sym (changes-snoc changes from (insertCells rows sofar)
-              (record { row = rows + length sofar; flips = toggledIn 0 (some to) }))
-              ∙ ap (putChanges changes from) (sym (ap (insertCells rows) (inserts-new x i new) ∙ insertCells-snoc rows sofar to));
+              rw (y, w, s .stored, s .place, s .next-row, inserts-new x i new, insertCells-snoc rows sofar to)
+              (sym (changes-snoc changes from (insertCells rows sofar) (record { row = rows + length sofar; flips = toggledIn 0 (some to) }) ∙ rw length-insertCells));
           place = u ∙ omega (arith, s .place, ap length (inserts-new x i new), one);
           next-row = ap (λ (q : Row). q .0) k ∙ z ∙ omega (arith, s .next-row, ap length (inserts-new x i new), one);
         }
@@ -240,9 +221,9 @@ module _ (changes : List ℕ) (x : Session) (from rows : ℕ) where
     pub inserts-skip : (changes″ : List ℕ) (p′ : ℕ) (row′ : Row) → (getD (x .at) i 0 ≡ 65535 → ⊥) → changes″ ≡ changes′ → p′ ≡ p
         → row′ ≡ row → InsertsStored x from rows changes changes″ (i + 1) p′ (row′ .0)
     inserts-skip changes″ p′ row′ old w u z = record {
-      stored = w ∙ s .stored ∙ ap (λ (vs : List ℕ). putChanges changes from (insertCells rows vs)) (sym (inserts-row x i old));
-      place = u ∙ s .place ∙ ap (λ (vs : List ℕ). from + length vs) (sym (inserts-row x i old));
-      next-row = ap (λ (q : Row). q .0) z ∙ s .next-row ∙ ap (λ (vs : List ℕ). rows + length vs) (sym (inserts-row x i old));
+      stored = rw (w, s .stored, inserts-row x i old);
+      place = rw (u, s .place, inserts-row x i old);
+      next-row = rw (z, s .next-row, inserts-row x i old);
     }
 
     pub inserts-all : n ≤ i → i ≤ n → changes′ ≡ putChanges changes from (insertCells rows (inserts (entries x)))
@@ -266,8 +247,7 @@ module _ (clock log : List ℕ) (c : Clock) (k : c ≡ clockIn clock) where
       → Recorded clock log (rows .0) end clock′ log′ (At (next .stamp) rows)
   unfolding clockIn later putMoment putChangesUsed
   recorded-is rows end next clock₁ clock′ log′ e p q r = record {
-    clock-is = r ∙ ap (λ (l : List ℕ). set l 5 end) (q ∙ ap (λ (d : Clock). set (set clock 2 (d .stamp .0)) 3 (d .rows .0))
-        (e ∙ ap (λ (d : Clock). later d rows) k));
-    log-is = p ∙ ap (λ (d : Clock). putRecord log (d .stamp .0) 1 (rows .0) end) k;
-    says = ap (λ (d : Clock). numbers (d .stamp .0 ∷ rows .0 ∷ [])) (e ∙ ap (λ (d : Clock). later d rows) k);
+    clock-is = rw (r, q, e, k);
+    log-is = rw (p, k);
+    says = rw (e, k);
   }

@@ -12,8 +12,7 @@ use Rattle.bits.specs.Part.{putPart, part-back}
 use Rattle.bits.specs.Vec.{vec, length-vec}
 use Rattle.bits.specs.VecOps.{xor-vec}
 use Rattle.bits.specs.Words.{bitAt, Words, xorWords}
-use Rattle.tables.specs.Cells.{slotWords, headOf, endAt}
-use Rattle.tables.specs.Stores.{putSlot}
+use Rattle.tables.specs.Cells.{slotWords, endAt}
 use Rattle.tables.proofs.Slots.{length-slotWords, words-slotWords}
 use Rattle.history.specs.declared.chain.Base.{Base}
 use Rattle.history.specs.Version.{baseSeen}
@@ -21,12 +20,6 @@ use Rattle.history.specs.Flips.{flippedIn, RowsLow}
 use Rattle.history.specs.Query.{queriedAt, queriedSince}
 use Rattle.history.proofs.QueryLaws.{slot-part}
 use Rattle.tidying.specs.Tidy.{Fillable}
-
--- ---- the slot's cells and the head
-
-pub slot-linked : (slots slots′ heads : List ℕ) (k v stamp head narrow wide : ℕ) → head ≡ headOf heads v → narrow ≡ head → wide ≡ k
-    → slots′ ≡ putSlot slots wide v stamp (narrow + 1) → slots′ ≡ putSlot slots k v stamp (headOf heads v + 1)
-slot-linked slots slots′ heads k v stamp head narrow wide e n w q = q ∙ ap₂ (λ (x y : ℕ). putSlot slots x v stamp (y + 1)) w (n ∙ e)
 
 -- ---- the words of a slot
 

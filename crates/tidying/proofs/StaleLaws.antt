@@ -1,12 +1,11 @@
 -- Whether a tidy is stale, a change at a time, and its other tests; in undamaged tables they are the rules' own.
 -- Assumes nothing.
-use mathlib.Core.Path.{_≡_, refl, sym, ap, ap₂, _∙_, subst}
+use mathlib.Core.Path.{_≡_, sym, ap, _∙_}
 use mathlib.Core.Bool.{Bool, true, false, _||_, or-true}
 use mathlib.Core.Option.{Option}
 use mathlib.Core.List.{List, [], _∷_}
 use Prim.Native.Nat.{ℕ, _+_, _*_, _≤_, _<_}
 use native.Mathlib.Numerals.{add-one}
-use native.Mathlib.Omega.{arith}
 use borrow.Author.Tests.{eq-eqb, ne-eqb, le-leb, lt-leb, lt-ltb, le-ltb}
 use lib.Dec.{leb, ltb}
 use lib.ListN.{length}
@@ -20,7 +19,6 @@ use Rattle.tables.specs.declared.refusal.Refusal.the-variants.{NothingToMove, S
 use Rattle.tables.specs.Cells.{stampIn, slotsIn, changesIn, slotStamp, headOf, endAt, changeRow, changeSet}
 use Rattle.tables.specs.Clock.{clockIn}
 use Rattle.tables.specs.Meaning.{changeAt}
-use Rattle.tables.specs.Stretch.{stretch}
 use Rattle.tables.proofs.Stretch.{stretch-none, stretch-front}
 use Rattle.calls.specs.declared.enter.Test.the-variants.{Passed, No}
 use Rattle.calls.specs.Enter.{whyOf}

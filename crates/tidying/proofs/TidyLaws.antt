@@ -17,7 +17,7 @@ use Rattle.rules.proofs.Tests.{all-fail}
 use Rattle.tables.specs.declared.clock.Clock.{Clock}
 use Rattle.tables.specs.declared.session.Session.{Session}
 use Rattle.tables.specs.declared.refusal.Refusal.{Refusal}
-use Rattle.tables.specs.Cells.{Tables, tables, stampIn, rowsIn, slotsIn, changesIn, endAt}
+use Rattle.tables.specs.Cells.{Tables, tables, stampIn, slotsIn, changesIn, endAt}
 use Rattle.tables.specs.Clock.{clockIn, later}
 use Rattle.tables.specs.Meaning.{meaning}
 use Rattle.tables.specs.Stores.{putRecord, putMoment, putSlotsUsed, putChangesUsed}

@@ -1,7 +1,6 @@
 -- `writes::write_insert` meets its contract: one change stored.
 -- Assumes nothing.
 use borrow.Author.Needs.{needs}
-use Rattle.committing.proofs.WriteLaws.{insert-written}
 use Rattle.committing.proofs.writes.write_insert.Statement.{statement}
 use Rattle.committing.proofs.writes.write_insert.Tie as tie
 
@@ -14,4 +13,4 @@ write-insert-spec =
     (λ c κs. search needs)
     (λ c κs. search needs)
     (λ c. search needs)
-    (λ c. search insert-written))
+    (λ c. cc))

@@ -7,7 +7,7 @@ use native.Mathlib.Omega.{arith}
 use borrow.Author.Needs.{needs}
 use lib.ListN.{length}
 use Rattle.committing.specs.Commit.{InsertsStored}
-use Rattle.committing.proofs.WriteLaws.{length-put, length-kept}
+use Rattle.committing.proofs.WriteLaws.{length-put}
 use Rattle.committing.proofs.WriteLaws.{inserts-start, insert-place, insert-row, inserts-more, inserts-skip, inserts-all}
 use Rattle.committing.proofs.writes.write_inserts.Statement.{statement}
 use Rattle.committing.proofs.writes.write_inserts.Tie as tie
@@ -22,7 +22,7 @@ abbrev μ-loop : tie.MeasureT-loop
 loop-again : tie.Need-loop-again Inv-loop μ-loop
 loop-again c =
     ⊎-elim (λ w. (omega arith, search length-put, omega arith, search inserts-more))
-    (λ w. (omega arith, search length-kept, omega arith, search inserts-skip)) (c .if1 .came)
+    (λ w. (omega arith, (cc), omega arith, search inserts-skip)) (c .if1 .came)
 
 pub write-inserts-spec : {M : Type 1} → statement M
 write-inserts-spec =

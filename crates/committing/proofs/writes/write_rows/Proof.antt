@@ -8,7 +8,7 @@ use borrow.Author.Needs.{needs}
 use lib.ListN.{length}
 use Rattle.tables.specs.Cells.{valuesIn}
 use Rattle.committing.specs.Commit.{newCells, RowsStored}
-use Rattle.committing.proofs.WriteLaws.{length-put, length-kept, rows-start, row-ready, rows-more, rows-skip, rows-all}
+use Rattle.committing.proofs.WriteLaws.{length-put, rows-start, row-ready, rows-more, rows-skip, rows-all}
 use Rattle.committing.proofs.writes.write_rows.Statement.{statement}
 use Rattle.committing.proofs.writes.write_rows.Tie as tie
 
@@ -22,7 +22,7 @@ abbrev μ-loop : tie.MeasureT-loop
 
 loop-again : tie.Need-loop-again Inv-loop μ-loop
 loop-again c = ⊎-elim (λ w. (omega arith, search length-put, omega arith, search rows-more))
-    (λ w. (omega arith, search length-kept, omega arith, search rows-skip)) (c .if1 .came)
+    (λ w. (omega arith, (cc), omega arith, search rows-skip)) (c .if1 .came)
 
 pub write-rows-spec : {M : Type 1} → statement M
 write-rows-spec =

@@ -1,6 +1,5 @@
 -- `tidy::link_slot` meets its contract.
 -- Assumes nothing.
-use Rattle.tidying.proofs.SlotLaws.{slot-linked}
 use borrow.Author.Needs.{needs}
 use Rattle.tidying.proofs.tidy.link_slot.Statement.{statement}
 use Rattle.tidying.proofs.tidy.link_slot.Tie as tie
@@ -17,4 +16,4 @@ link-slot-spec =
     (λ c κs. search needs)
     (λ c. search needs)
     (λ c. search needs)
-    (λ c. (search slot-linked, search needs)))
+    (λ c. ((cc), search needs)))
