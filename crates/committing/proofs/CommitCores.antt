@@ -96,12 +96,12 @@ module _ (t : Tables) (n : ℕ) (x : Session) (o : OpenIn t n x) where
       (x .start .0) (entries x)
   unfolding commitChanges
   changes-meet =
-      ap₂ (λ (cs ds : List Change). cs ++ ds)
-      (rows-alike (valuesIn (t .clock)) (x .rows .0) (newCells (t .slots) (t .words) (t .heads) (t .log) (t .changes) (valuesIn (t .clock))
-      (x .start .0))
-      (newSet (meaning t .values) (meaning t .log) (meaning t .chains) (x .start .0) (x .start .0)) (entries x) entries-fit set-meets)
-      (inserts-alike (valuesIn (t .clock)) (x .rows .0) (entries x) (rowsIn (t .clock)) few entries-fit
-      ∙ ap (λ (r : ℕ). insertChanges r (inserts (entries x))) (sym (rows-means t)))
+      rw (
+        rows-alike (valuesIn (t .clock)) (x .rows .0) _ (newSet (meaning t .values) (meaning t .log) (meaning t .chains) (x .start .0) (x .start .0))
+            (entries x) entries-fit set-meets,
+        inserts-alike (valuesIn (t .clock)) (x .rows .0) (entries x) (rowsIn (t .clock)) few entries-fit,
+        rows-means t,
+      )
 
 -- ---- the ends
 
@@ -112,15 +112,6 @@ module _ (clock slots words heads log changes : List ℕ) where
   -- what an accepted commit leaves and answers
   abbrev wrote : ℕ → Tables → Outcome
   wrote n t = outcome (stores t (commitStores t n)) [] (numbers ((stampIn (t .clock) + 1) ∷ commitRows t n ∷ []))
-
-  -- the same table by table, of the session that it is
-  abbrev tabled : List Session → ℕ → Session → Outcome
-  tabled ts n y =
-      outcome
-      (tables (set (set (set clock 2 (stampIn clock + 1)) 3 (rowsAfter clock y)) 5 (changesIn clock + y .count)) slots words heads
-      (putRecord log (stampIn clock) 1 (rowsAfter clock y) (changesIn clock + y .count))
-      (putChanges changes (changesIn clock) (commitChanges (meaning (lent ts)) (y .start .0) (entries y))) (set ts n freed)) []
-      (numbers ((stampIn clock + 1) ∷ rowsAfter clock y ∷ []))
 
   module _ (x : Session) (n : ℕ) (go : asked.Test) (q : whyOf go ≡ firstOf (commitTests clock log changes x)) where
     pub now-refused : (why : Refusal) (d : Freed) → go ≡ No why → d ≡ freesNone why
@@ -141,17 +132,9 @@ module _ (clock slots words heads log changes : List ℕ) where
       unfolding commitOf
       now-done clock′ log′ changes′ a d c k ts o =
           let t = lent ts in
-          let made : List ℕ → List ℕ → List ℕ → Said → Outcome =
-          λ cl lg ch s. outcome (tables cl slots words heads lg ch (set ts n freed)) [] s in
           freed-left (tables clock′ slots words heads log′ changes′ ts) [] n d a (o .place-low) k
-          ∙ ap₂ (λ (cl lg : List ℕ). made cl lg changes′ (said a)) (c .recorded .clock-is) (c .recorded .log-is)
-          ∙ ap₂ (λ (ch : List ℕ) (s : Said).
-          made (set (set (set clock 2 (stampIn clock + 1)) 3 (rowsAfter clock x)) 5 (changesIn clock + x .count))
-          (putRecord log (stampIn clock) 1 (rowsAfter clock x) (changesIn clock + x .count)) ch s)
-          (c .stored ∙ ap (putChanges changes (changesIn clock)) (changes-meet t n x o)) (c .recorded .says)
-          ∙ ap (tabled ts n) (sym (o .own-there))
-          ∙ sym (ap (λ (u : Tables). outcome u [] (numbers ((stampIn clock + 1) ∷ commitRows t n ∷ []))) (commit-stores t n))
-          ∙ sym (accepted-outcome t [] (commit n) (wrote n t) (commit-refusal t n x o ∙ sym q ∙ ap whyOf h))
+          ∙ rw (c .recorded .clock-is, c .recorded .log-is, c .recorded .says, c .stored, changes-meet t n x o, ← o .own-there)
+          (sym (accepted-outcome t [] (commit n) (wrote n t) (commit-refusal t n x o ∙ sym q ∙ ap whyOf h) ∙ rw (commit-stores t n)))
 
   -- ---- the core
 

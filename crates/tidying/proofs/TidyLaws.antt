@@ -41,7 +41,7 @@ use Rattle.tidying.specs.Tidy.{Datable, tidyTests, RowsPut, Puttable, Fi
 use Rattle.tidying.specs.Tidy.{movedIn, tidyClock, tidyLog, tidiedCells, Tidied, tidyCells, Tidies}
 use Rattle.calls.proofs.Entered.{bare, Valued, valued-passed, valued-goes, valued-shows}
 use Rattle.calls.proofs.Serving.{idle, valued-refused}
-use Rattle.tidying.proofs.TidyMeets.{tests-meet, cells-meet}
+use Rattle.tidying.proofs.TidyMeets.{restTests, tests-meet, cells-meet}
 
 -- ---- the record and the clock
 
@@ -217,14 +217,6 @@ unfolding unless
 unless-same none t a b h = h refl
 unless-same (some n) t a b h = refl
 
--- the tests of a tidy after those that it shares
-abbrev restOf : Tables → ℕ → ℕ → List Test
-restOf t n v =
-    let x = session (meaning t) n in
-    nothingToMove (meaning t) x v ∷ isStale (meaning t) x v ∷ recordsFull (meaning t) ∷ changesFull (meaning t)
-    (length (moved (meaning t .log) (startOf x) v))
-    ∷ slotsFull (meaning t) ∷ []
-
 module _ (clock slots words heads log changes : List ℕ) (x : Seat) (n v : ℕ) (test : asked.Test)
     (q : whyOf test ≡ valuedBy clock slots words heads log changes x n v) where
   abbrev given : List Session → Tables
@@ -236,7 +228,7 @@ module _ (clock slots words heads log changes : List ℕ) (x : Seat) (n v : ℕ)
       valued-refused clock slots words heads log changes [] x n (tidy n v)
       (λ t. let s = own t n .start .0 in
       outcome (stores t (tidyStores t s v)) [] (numbers ((stampIn (t .clock) + 1) ∷ length (moved (meaning t .log) s v) ∷ [])))
-      test why h untouched (answer.No why) (idle _ _ refl) (λ t. restOf t n v) v (λ t. refl) q
+      test why h untouched (answer.No why) (idle _ _ refl) (λ t. restTests t v (session (meaning t) n)) v (λ t. refl) q
 
   module _ (h : test ≡ Passed) where
     valued : Valued clock slots words heads log changes (x .session) n v
@@ -267,8 +259,8 @@ module _ (clock slots words heads log changes : List ℕ) (x : Seat) (n v : ℕ)
     tidy-served after a f = λ ts e.
         let t = given ts in
         let s = x .session .start .0 in
-        let g = valued-goes t n x e (tidy n v) (restOf t n v) test v refl q h in
-        let w = valued-shows t n x e (tidy n v) (restOf t n v) test v refl q h in
+        let g = valued-goes t n x e (tidy n v) (restTests t v (session (meaning t) n)) test v refl q h in
+        let w = valued-shows t n x e (tidy n v) (restTests t v (session (meaning t) n)) test v refl q h in
         let o : ℕ → Outcome = λ k. outcome (stores t (tidyStores t k v)) []
         (numbers ((stampIn (t .clock) + 1) ∷ length (moved (meaning t .log) k v) ∷ [])) in
         let low : s ≤ stampIn clock = w .facts .start-old in
