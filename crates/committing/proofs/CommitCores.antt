@@ -2,13 +2,13 @@
 -- Assumes nothing.
 use mathlib.Core.Path.{_≡_, refl, sym, ap, ap₂, _∙_}
 use mathlib.Core.Option.{Option, none, some}
-use mathlib.Core.List.{List, [], _∷_, _++_}
+use mathlib.Core.List.{List, [], _∷_}
 use Prim.Native.Nat.{ℕ, suc, _+_, _≤_}
 use native.Mathlib.Numerals.{add-one}
 use native.Mathlib.Omega.{arith}
 use borrow.Author.Tests.{lt-ltb}
-use lib.ListN.{length, set}
-use Rattle.rules.specs.State.{Change, Entry, alter, add, session}
+use lib.ListN.{length}
+use Rattle.rules.specs.State.{Entry, alter, add, session}
 use Rattle.rules.specs.Lists.{inserts}
 use Rattle.rules.specs.Commit.{toggled, newSet, rowChanges, insertChanges, commitChanges}
 use Rattle.rules.proofs.Invariant.{Within, EntriesFit, SessionFits}
@@ -18,9 +18,7 @@ use Rattle.rules.specs.State as rules
 use Rattle.rules.proofs.Fits.{smallest-low}
 use Rattle.tables.specs.declared.session.Session.{Session}
 use Rattle.tables.specs.declared.refusal.Refusal.{Refusal}
-use Rattle.tables.specs.Cells.{Tables, tables, valuesIn, stampIn, rowsIn, changesIn, endAt}
-use Rattle.tables.specs.Sessions.{freed}
-use Rattle.tables.specs.Stores.{putRecord}
+use Rattle.tables.specs.Cells.{Tables, tables, valuesIn, stampIn, rowsIn, endAt}
 use Rattle.tables.specs.Meaning.{entries, meaning}
 use Rattle.tables.proofs.Facts.{parts, clock-limits}
 use Rattle.tables.proofs.Means.{values-means, rows-means}
@@ -32,14 +30,14 @@ use Rattle.lent.specs.declared.seats.Seat.{Seat}
 use Rattle.calls.specs.declared.answers.Freed.{Freed}
 use Rattle.calls.specs.declared.answers.Answer.{Answer}
 use Rattle.calls.specs.declared.enter.Test.the-variants.{Passed, No}
-use Rattle.calls.specs.Said.{Said, said, numbers}
+use Rattle.calls.specs.Said.{numbers}
 use Rattle.calls.specs.Outcome.{Outcome, outcome}
-use Rattle.calls.specs.Stores.{stores, putChanges}
+use Rattle.calls.specs.Stores.{stores}
 use Rattle.calls.specs.Calls.{commitRows, commitStores, commitOf}
 use Rattle.calls.specs.Seats.{frees, freesNone, freeing, Serves}
 use Rattle.calls.specs.Enter.{whyOf, openedBy}
 use Rattle.calls.specs.Opened.{Usable, OpenIn, Settles}
-use Rattle.committing.specs.Commit.{commitTests, toggledIn, newCells, insertCells, CommitReady, rowsAfter, changesMade, Committed}
+use Rattle.committing.specs.Commit.{commitTests, toggledIn, newCells, insertCells, CommitReady, changesMade, Committed}
 use Rattle.calls.specs.declared.enter.Test as asked
 use Rattle.calls.proofs.Entered.{opened-goes, opened-shows}
 use Rattle.calls.proofs.Serving.{idle-freeing, freed-left, refused-outcome, accepted-outcome, opened-refused}

@@ -9,10 +9,10 @@ use borrow.Author.Tests.{leb-false, ltb-false}
 use lib.ListN.{length, set}
 use Rattle.bits.specs.Rows.{countOf, rowsOf}
 use Rattle.bits.specs.Vec.{vec}
-use Rattle.rules.specs.State.{session, startOf}
+use Rattle.rules.specs.State.{session}
 use Rattle.rules.specs.Tidy.{moved}
 use Rattle.rules.specs.Calls.{tidy}
-use Rattle.rules.specs.Refusals.{Test, firstOf, nothingToMove, isStale, recordsFull, changesFull, slotsFull, tests}
+use Rattle.rules.specs.Refusals.{Test, firstOf, tests}
 use Rattle.rules.proofs.Tests.{all-fail}
 use Rattle.tables.specs.declared.clock.Clock.{Clock}
 use Rattle.tables.specs.declared.session.Session.{Session}

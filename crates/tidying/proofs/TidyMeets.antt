@@ -5,7 +5,6 @@ use mathlib.Core.Bool.{Bool, true, _||_, or-assoc}
 use mathlib.Core.List.{List, [], _∷_, _++_, map, append-assoc}
 use Prim.Native.Nat.{ℕ, zero, suc, _+_, _-_, _*_, _≤_, _<_}
 use native.Mathlib.Omega.{arith}
-use borrow.Author.Tests.{ne-eqb}
 use lib.Dec.{eqb, ltb, eqb·suc-zero}
 use lib.ListN.{length, take, drop, length-map}
 use lib.Seq.{sets, sets-eq}
@@ -36,7 +35,7 @@ use Rattle.history.specs.Flips.{flippedIn}
 use Rattle.history.specs.Query.{queriedAt}
 use Rattle.history.proofs.Meets.{flipSet-meets, moves-meets, moved-meets, queried-meets}
 use Rattle.calls.specs.Said.{numbers}
-use Rattle.calls.specs.Outcome.{Outcome, outcome}
+use Rattle.calls.specs.Outcome.{outcome}
 use Rattle.calls.specs.Stores.{clockCell, slotCell, headCell, stores, wordStores, putChanges}
 use Rattle.calls.specs.Calls.{tidyStores}
 use Rattle.tidying.specs.Tidy.{touches, touchedIn, staleAt, tidyTests, lessAt, movedIn, tidyClock, tidyLog, tidiedCells}
