@@ -107,13 +107,7 @@ module _ (clock slots words heads log changes : List ℕ) (x : Session) (from : 
     pub row-ready : i < n → length changes′ ≡ length changes → RowReady clock slots words heads log changes′ x i p
     row-ready l e = record {
       clock-room = ready .clock-room;
-      readable = record {
-        readable = ready .readable .readable;
-        stamp-low = ready .readable .stamp-low;
-        log-room = ready .readable .log-room;
-        changes-room = omega (arith, ready .readable .changes-room);
-        end-low = ready .readable .end-low;
-      };
+      readable = search (ready .readable, arith);
       entry-low = omega (arith, ready .count-low);
       place-low = omega (arith, ready .places-low);
     }

@@ -29,7 +29,6 @@ use Rattle.calls.specs.declared.answers.Answer.{Answer}
 use Rattle.calls.specs.declared.answers.Answer.the-variants as answer
 use Rattle.calls.specs.declared.enter.Test as asked
 use Rattle.calls.specs.declared.enter.Test.the-variants.{Passed, No}
-use Rattle.calls.specs.Said as says
 use Rattle.calls.specs.Outcome.{Outcome}
 use Rattle.calls.specs.Query.{rowsSeen, flipsSeen, queryOf}
 use Rattle.calls.specs.Query as query

@@ -57,13 +57,9 @@ put-more a b from to v l l₁ l₂ p q h k f g =
     let n : length (map less a) ≡ length a = length-map a less in
     record {
       stored =
-          g .stored
-          ∙ ap₂ (λ (x : List ℕ) (d : ℕ → Change). putChanges x p (map d b)) (f .stored)
-          (ap (λ (x : List ℕ). lessAt x to v) (f .stored) ∙ less-kept l from to v (map less a) h (omega (arith, n, f .place)))
-          ∙ ap (λ (m : ℕ). putChanges (putChanges l from (map less a)) m (map less b)) (f .place ∙ ap (λ (m : ℕ). from + m) (sym n))
-          ∙ sym (changes-append l from (map less a) (map less b)) ∙ ap (putChanges l from) (sym (map-append less a b));
-      place = g .place ∙ ap (λ (m : ℕ). m + length b) (f .place) ∙ add-assoc from (length a) (length b)
-          ∙ ap (λ (m : ℕ). from + m) (sym (length-append a b));
+          rw (g .stored, f .stored, less-kept l from to v (map less a) h (omega (arith, n, f .place)), f .place, ← n, map-append less a b)
+          (sym (changes-append l from (map less a) (map less b)));
+      place = omega (arith, g .place, f .place, length-append a b);
     }
 
 -- ---- the rows of a vector, a word at a time

@@ -36,12 +36,7 @@ module _ (slots words heads log changes : List ℕ) (k s v : ℕ) where
   -- the rows that the mask is made of
   pub mask-rows : (from to : ℕ) → Fillable slots words heads log changes k s v → to ≡ endAt log s → RowsLow changes from to
   mask-rows from to f e =
-      record {
-        changes-room = f .rows .changes-room;
-        end-low = rw e (f .rows .end-low);
-        rows-low =
-            λ p h l. f .rows .rows-low p (omega arith) (omega arith);
-      }
+      record { changes-room = f .rows .changes-room; end-low = rw e (f .rows .end-low); rows-low = λ p h l. f .rows .rows-low p (omega arith) (omega arith) }
 
   pub vector-written : (base : Base) (to : ℕ) (mask own d : List ℕ) (j : ℕ) → Words words → Fillable slots words heads log changes k s v
       → base .slot < 96

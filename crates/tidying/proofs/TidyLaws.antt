@@ -94,47 +94,22 @@ module _ (clock log moved : List ℕ) (s : ℕ) where
 
 module _ (clock slots words heads log changes moved : List ℕ) (s v : ℕ) (f : TidyReady clock slots words heads log changes s v moved) where
   pub plannable : Plannable clock log s moved
-  plannable =
-      let g = f .tidyable in
-      record {
-        clock-room = g .room .clock-room;
-        log-room = g .room .log-room;
-        stamp-low = f .stamp-low;
-        start-low = omega (arith, g .start-old, f .stamp-low);
-        few-moved = omega (arith, f .places-low);
-      }
+  plannable = search arith
 
   module _ (p : Plan) (e : p ≡ planOf clock log s moved) where
     pub version-fillable : Fillable slots words heads log changes (p .slot) s v
     unfolding planOf
-    version-fillable =
-        let g = f .tidyable in
-        record {
-          based = g .based;
-          words-room = g .room .words-room;
-          slot-low = rw e (f .slot-low);
-          start-low = omega (arith, g .start-old, f .stamp-low);
-          rows = g .rows;
-        }
+    version-fillable = rw e (search arith)
 
     pub moved-puttable : Puttable changes (p .used) (p .to) v (countOf moved)
     unfolding planOf
-    moved-puttable =
-        let g = f .tidyable in
-        record {
-          changes-room = g .room .changes-room;
-          old-before = rw e (g .end-old);
-          places-low = rw e (f .places-low);
-          value-low = g .based .headed .value-low;
-        }
+    moved-puttable = rw e (search arith)
 
     pub tidy-writes : (p .next ≡ later (clockIn clock) (clockIn clock .rows)) × (6 ≤ length clock) × (2048 ≤ length log)
         × (stampIn clock < 512)
         × (changesIn clock + p .count ≤ 2048) × (slotsIn clock < 96)
     unfolding planOf
-    tidy-writes =
-        let g = f .tidyable .room in
-        (rw e refl, g .clock-room, g .log-room, f .stamp-low, rw e (f .places-low), f .slot-low)
+    tidy-writes = rw e (search arith)
 
     pub tidy-done : (z : ℕ) (clock′ slots′ words′ heads′ log′ changes′ : List ℕ) (r : Answer)
         → VersionPut slots words heads log changes (p .slot) (p .next .stamp .0) s v slots′ words′ heads′
@@ -177,9 +152,7 @@ module _ (clock slots words heads log changes : List ℕ) (s v to : ℕ) (moved 
 
   module _ (h : go ≡ Passed) where
     pub tidy-ready : Tidyable clock slots words heads log changes s v → TidyReady clock slots words heads log changes s v moved
-    tidy-ready f =
-        let p = passing clock slots heads log changes s v moved (sym q ∙ ap whyOf h) in
-        record { tidyable = f; stamp-low = p .0; places-low = p .1; slot-low = p .2 }
+    tidy-ready f = let p = passing clock slots heads log changes s v moved (sym q ∙ ap whyOf h) in search
 
     pub tidy-answers : (after : List Session → Tables) (r : Answer) → Tidied lent after s v moved r → Tidies lent after s v r
     unfolding tidyCells unless
@@ -197,17 +170,7 @@ module _ (clock slots words heads log changes : List ℕ) (s v : ℕ) (f : Tidya
   moved-rows to e = subst (RowsLow changes 0) (sym e) (f .rows)
 
   pub ready-needs : (6 ≤ length clock) × Datable slots heads log changes (stampIn clock) s v
-  ready-needs = (
-    f .room .clock-room,
-    record {
-      headed = f .based .headed;
-      log-room = f .room .log-room;
-      changes-room = f .room .changes-room;
-      last-low = f .few-records;
-      start-low = start-in;
-      end-low = omega (arith, f .last-end, f .few-changes);
-    },
-  )
+  ready-needs = search arith
 
 -- ---- the call
 
