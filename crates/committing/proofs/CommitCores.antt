@@ -95,7 +95,8 @@ module _ (t : Tables) (n : ℕ) (x : Session) (o : OpenIn t n x) where
   unfolding commitChanges
   changes-meet =
       rw (
-        rows-alike (valuesIn (t .clock)) (x .rows .0) _ (newSet (meaning t .values) (meaning t .log) (meaning t .chains) (x .start .0) (x .start .0))
+        rows-alike (valuesIn (t .clock)) (x .rows .0) _ (newSet (meaning t .values) (meaning t .log) (meaning t .chains) (x .start .0)
+            (x .start .0))
             (entries x) entries-fit set-meets,
         inserts-alike (valuesIn (t .clock)) (x .rows .0) (entries x) (rowsIn (t .clock)) few entries-fit,
         rows-means t,

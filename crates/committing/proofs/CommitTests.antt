@@ -83,14 +83,7 @@ module _ (clock log changes : List ℕ) (x : cells.Session) where
     pub ready-rows-few : (m : ℕ) → m ≡ length (inserts (entries x)) → Fits w32 (k .rows .0 + m)
     unfolding clockIn
     ready-rows-few m u =
-        omega (
-          arith,
-          ap (λ (d : Clock). d .rows .0) is,
-          asks .rows-few,
-          rows-inserts (λ r o. 0) (entries x),
-          length-entries x,
-          asks .searched .count-low,
-        )
+        rw is (omega (arith, asks .rows-few, rows-inserts (λ r o. 0) (entries x), length-entries x, asks .searched .count-low))
 
 -- ---- what the tests leave
 
@@ -145,4 +138,11 @@ module _ (t : Tables) (n : ℕ) (x : cells.Session) (o : OpenIn t n x) where
   unfolding refusalAt tests commitTests maxRows maxRecords maxChanges
   commit-refusal =
       rw (o .room, o .good, in-table, open-session t n x o)
-      (rw (empty-is (entries x), length-entries x, stamp-means t, changes-means t (parts t (o .good) .records-fit), rows-means t, log-means t))
+      (rw (
+        empty-is (entries x),
+        length-entries x,
+        stamp-means t,
+        changes-means t (parts t (o .good) .records-fit),
+        rows-means t,
+        log-means t,
+      ))

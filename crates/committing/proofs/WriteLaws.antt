@@ -1,6 +1,6 @@
 -- What an accepted commit writes, step by step: flip sets, the changes of the listed rows and of the inserts, the record.
 -- Assumes nothing.
-use mathlib.Core.Path.{_≡_, refl, sym, ap, ap₂, _∙_, subst}
+use mathlib.Core.Path.{_≡_, refl, sym, ap, ap₂, _∙_}
 use mathlib.Core.Option.{Option, some}
 use mathlib.Core.List.{List, [], _∷_, _++_}
 use Prim.Native.Nat.{ℕ, suc, _+_, _≤_, _<_}
@@ -9,7 +9,6 @@ use borrow.Author.Tests.{lt-ltb, le-ltb}
 use lib.ListN.{length, getD, set, length-append}
 use Rattle.bits.specs.Bit.{flipBit}
 use Rattle.bits.specs.Tab.{tab}
-use Rattle.rules.specs.State.{Change, Entry, alter, add}
 use Rattle.rules.specs.Lists.{inserts}
 use Rattle.rules.specs.Commit.{rowChanges}
 use Rattle.rules.proofs.Shapes.{inserts-append}
@@ -89,11 +88,6 @@ module _ (changes changes′ changes″ : List ℕ) (e : length changes′ ≡ l
 
 -- ---- the changes of all rows
 
-length-rows : (g : ℕ → Option ℕ → ℕ) (es : List Entry) → length (rowChanges g es) ≤ length es
-length-rows g [] = omega arith
-length-rows g (alter r t ∷ es) = omega (arith, length-rows g es)
-length-rows g (add v ∷ es) = omega (arith, length-rows g es)
-
 module _ (clock slots words heads log changes : List ℕ) (x : Session) (from : ℕ)
     (ready : RowsReady clock slots words heads log changes x from) where
   abbrev sets : ℕ → Option ℕ → ℕ
@@ -132,18 +126,12 @@ module _ (clock slots words heads log changes : List ℕ) (x : Session) (from : 
         let cs = rowChanges sets (tab (entryAt x) i) in
         let row = getD (x .at) i 0 in
         let b = targetOf (getD (x .to) i 0) in
+        let one = length-append cs (record { row = row; flips = sets row b } ∷ []) in
         record {
           stored =
               rw (y, w, new-kept (omega arith) row b, s .stored, s .place, rows-row x i old sets)
               (sym (changes-snoc changes from cs (record { row = row; flips = sets row b })));
-          place =
-              u ∙ omega (
-                arith,
-                s .place,
-                ap length (rows-row x i old sets),
-                length-append cs
-                    (record { row = row; flips = sets row b } ∷ []),
-              );
+          place = u ∙ omega (arith, s .place, ap length (rows-row x i old sets), one);
         }
 
     pub rows-skip : (changes″ : List ℕ) (p′ : ℕ) → getD (x .at) i 0 ≡ 65535 → changes″ ≡ changes′ → p′ ≡ p
@@ -154,7 +142,7 @@ module _ (clock slots words heads log changes : List ℕ) (x : Session) (from : 
     }
 
     pub rows-all : n ≤ i → i ≤ n → RowsStored sets x from changes changes′ (x .count) p
-    rows-all l h = let z : i ≡ x .count = omega arith in subst (λ (k : ℕ). RowsStored sets x from changes changes′ k p) z s
+    rows-all l h = let z : i ≡ x .count = omega arith in rw z at s
 
 -- ---- the changes of the inserts
 
@@ -166,17 +154,14 @@ insertCells-snoc : (n : ℕ) (vs : List ℕ) (v : ℕ)
     → insertCells n (vs ++ (v ∷ [])) ≡ insertCells n vs ++ (record { row = n + length vs; flips = toggledIn 0 (some v) } ∷ [])
 insertCells-snoc n [] v = let e : n ≡ n + 0 = omega arith in ap (λ (r : ℕ). record { row = r; flips = toggledIn 0 (some v) } ∷ []) e
 insertCells-snoc n (w ∷ vs) v =
-    let e : n + 1 + length vs ≡ n + suc (length vs) = omega arith in
-    ap (λ (cs : List Change). record { row = n; flips = toggledIn 0 (some w) } ∷ cs)
-    (insertCells-snoc (n + 1) vs v ∙ ap (λ (r : ℕ). insertCells (n + 1) vs ++ (record { row = r; flips = toggledIn 0 (some v) } ∷ [])) e)
+    let e : n + 1 + length vs ≡ n + suc (length vs) = omega arith in rw (insertCells-snoc (n + 1) vs v, e)
 
 -- the first i entries have no more inserts than all
 inserts-few : (x : Session) (i n : ℕ) → i ≤ n → length (inserts (tab (entryAt x) i)) ≤ length (inserts (tab (entryAt x) n))
 inserts-few x i n h =
     let f = entryAt x in
-    let e : tab f n ≡ tab f i ++ stretch f i n = tab-stretch f n ∙ sym (stretch-join f 0 i n (omega arith) h)
-    ∙ ap (λ (es : List Entry). es ++ stretch f i n) (sym (tab-stretch f i)) in
-    let q : inserts (tab f n) ≡ inserts (tab f i) ++ inserts (stretch f i n) = ap inserts e ∙ inserts-append (tab f i) (stretch f i n) in
+    let q : inserts (tab f n) ≡ inserts (tab f i) ++ inserts (stretch f i n) =
+    rw (tab-stretch f n, tab-stretch f i, ← stretch-join f 0 i n (omega arith) h) (inserts-append (stretch f 0 i) (stretch f i n)) in
     omega (arith, ap length q, length-append (inserts (tab f i)) (inserts (stretch f i n)))
 
 module _ (changes : List ℕ) (x : Session) (from rows : ℕ) where
@@ -207,7 +192,7 @@ module _ (changes : List ℕ) (x : Session) (from rows : ℕ) where
         record {
           stored =
               rw (y, w, s .stored, s .place, s .next-row, inserts-new x i new, insertCells-snoc rows sofar to)
-              (sym (changes-snoc changes from (insertCells rows sofar) (record { row = rows + length sofar; flips = toggledIn 0 (some to) }) ∙ rw length-insertCells));
+              (sym (changes-snoc changes from (insertCells rows sofar) _ ∙ rw length-insertCells));
           place = u ∙ omega (arith, s .place, ap length (inserts-new x i new), one);
           next-row = ap (λ (q : Row). q .0) k ∙ z ∙ omega (arith, s .next-row, ap length (inserts-new x i new), one);
         }
@@ -221,8 +206,7 @@ module _ (changes : List ℕ) (x : Session) (from rows : ℕ) where
     }
 
     pub inserts-all : n ≤ i → i ≤ n → changes′ ≡ putChanges changes from (insertCells rows (inserts (entries x)))
-    inserts-all l h = let z : i ≡ x .count = omega arith in s .stored
-        ∙ ap (λ (k : ℕ). putChanges changes from (insertCells rows (inserts (tab (entryAt x) k)))) z
+    inserts-all l h = let z : i ≡ x .count = omega arith in rw z at s .stored
 
 -- ---- the record and the clock
 

@@ -64,7 +64,8 @@ module _ (clock slots words heads log changes : List ℕ) (x : Seat) (n : ℕ) (
       pub begin-again : (d : Begun) → x .session .live ≡ 1 → d ≡ opensNone (At (x .session .start) (x .session .rows)) → Begins d
       unfolding beginning
       begin-again d l k ts e =
-          idle-left (lent ts) [] n (opening d n) (d .answer) _ (idle-opening d n _ k) ∙ sym (accepted ts e ∙ rw (eq-eqb (x .session .live) 1 l))
+          idle-left (lent ts) [] n (opening d n) (d .answer) _ (idle-opening d n _ k)
+          ∙ sym (accepted ts e ∙ rw (eq-eqb (x .session .live) 1 l))
 
       pub begin-new : (c : Clock) (d : Begun) → (x .session .live ≡ 1 → ⊥) → c ≡ clockIn clock → d ≡ opens (c .stamp) (c .rows) → Begins d
       unfolding beginning clockIn
@@ -94,4 +95,5 @@ module _ (clock slots words heads log changes : List ℕ) (x : Seat) (n : ℕ) (
     abort-frees d h k ts e =
         let t = lent ts in
         freed-left t [] n d (Count (x .session .count)) (opened-passed clock slots words heads log changes x n test h q .place-low) k
-        ∙ rw (own-seat t n x e) (sym (accepted-outcome t [] (abort n) (dropped t) (opened-goes t n x e (abort n) [] test refl q h .rest-decides)))
+        ∙ rw (own-seat t n x e) (sym (accepted-outcome t [] (abort n) (dropped t)
+        (opened-goes t n x e (abort n) [] test refl q h .rest-decides)))

@@ -63,7 +63,8 @@ module _ (clock slots words heads log changes : List ℕ) (x : Seat) (n row : �
     pub read-readies : (c : Clock) → c ≡ clockIn clock → ReadReady slots words heads log changes (c .values .0) (x .session .start .0)
     unfolding clockIn
     read-readies c k =
-        rw k (read-ready (bare clock slots words heads log changes) (passed .room) (passed .good) (x .session .start .0) (passed .start-old))
+        rw k (read-ready (bare clock slots words heads log changes) (passed .room) (passed .good) (x .session .start .0)
+        (passed .start-old))
 
     module _ (ts : List Session) (e : x ≡ seatOf (lent ts) n) where
       went : Goes (lent ts) (read n row) (noRow (session (meaning (lent ts)) n) row ∷ [])

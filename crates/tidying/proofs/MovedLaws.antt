@@ -1,11 +1,11 @@
 -- The changes of moved rows as loops put them: a row, the rows of a word, the rows of a vector.
 -- Assumes nothing.
-use mathlib.Core.Path.{_≡_, refl, sym, ap, ap₂, _∙_, subst, fun-ext}
+use mathlib.Core.Path.{_≡_, refl, sym, ap, _∙_, subst, fun-ext}
 use mathlib.Core.Bool.{true, true≢false}
 use mathlib.Core.List.{List, [], _∷_, _++_, map, map-append}
 use mathlib.Core.Logic.{⊎-elim}
 use Prim.Native.Nat.{ℕ, _+_, _-_, _*_, _/_, _^_, _≤_, _<_}
-use native.Mathlib.Nat.{add-zero, add-assoc, div-one, lt-of-le-of-lt, pos-of-ne-zero}
+use native.Mathlib.Nat.{add-zero, div-one, lt-of-le-of-lt, pos-of-ne-zero}
 use native.Mathlib.Omega.{arith}
 use lib.Count.{trailingZeros}
 use lib.Pow.{shr-shr, shr-le}

@@ -3,7 +3,7 @@
 use mathlib.Core.Path.{_≡_, sym, ap, ap₂, _∙_}
 use mathlib.Core.Bool.{Bool}
 use mathlib.Core.List.{List}
-use Prim.Native.Nat.{ℕ, _+_, _-_, _*_, _≤_, _<_}
+use Prim.Native.Nat.{ℕ, _+_, _-_, _*_, _<_}
 use native.Mathlib.Omega.{arith}
 use borrow.Rule.Slice.PartMut.{putMid}
 use lib.ListN.{length, take, drop}
@@ -24,9 +24,6 @@ use Rattle.tidying.specs.Tidy.{Fillable}
 -- ---- the words of a slot
 
 module _ (words : List ℕ) (i : ℕ) where
-  pub slot-lent : i < 96 → 3072 ≤ length words → length (take (32 * i + 32 - 32 * i) (drop (32 * i) words)) ≡ 32
-  slot-lent h l = ap length (slot-part words i) ∙ length-slotWords words i h l
-
   pub slot-copied : (r : List ℕ) → r ≡ take (32 * i + 32 - 32 * i) (drop (32 * i) words) → r ≡ slotWords words i
   slot-copied r e = e ∙ slot-part words i
 
@@ -36,7 +33,12 @@ module _ (slots words heads log changes : List ℕ) (k s v : ℕ) where
   -- the rows that the mask is made of
   pub mask-rows : (from to : ℕ) → Fillable slots words heads log changes k s v → to ≡ endAt log s → RowsLow changes from to
   mask-rows from to f e =
-      record { changes-room = f .rows .changes-room; end-low = rw e (f .rows .end-low); rows-low = λ p h l. f .rows .rows-low p (omega arith) (omega arith) }
+      record {
+        changes-room = f .rows .changes-room;
+        end-low = rw e (f .rows .end-low);
+        rows-low =
+            λ p h l. f .rows .rows-low p (omega arith) (omega arith);
+      }
 
   pub vector-written : (base : Base) (to : ℕ) (mask own d : List ℕ) (j : ℕ) → Words words → Fillable slots words heads log changes k s v
       → base .slot < 96

@@ -83,7 +83,8 @@ module _ (clock slots heads log changes : List ℕ) (s v : ℕ) (moved : List �
 
   module _ (a : n ≡ 0 → ⊥) (r : Bool) (e : r ≡ staleAt slots heads log changes (c .stamp .0) s v moved) where
     -- the tests after 13
-    later : answer ≡ firstOf ((r, 14) ∷ (leb 512 (c .stamp .0), 16) ∷ (ltb 2048 (changesIn clock + n), 17) ∷ (leb 96 (slotsIn clock), 18) ∷ [])
+    later : answer ≡ firstOf ((r, 14) ∷ (leb 512 (c .stamp .0), 16) ∷ (ltb 2048 (changesIn clock + n), 17) ∷
+        (leb 96 (slotsIn clock), 18) ∷ [])
     unfolding tidyTests clockIn
     later = rw (← m, ne-eqb n 0 a, e, k)
 

@@ -37,7 +37,7 @@ use Rattle.calls.specs.Calls.{own, tidyStores, tidyOf}
 use Rattle.calls.specs.Seats.{untouched, Serves}
 use Rattle.calls.specs.Enter.{whyOf, valuedBy}
 use Rattle.tidying.specs.declared.tidy.Plan.{Plan}
-use Rattle.tidying.specs.Tidy.{Datable, tidyTests, RowsPut, Puttable, Fillable, VersionPut, Tidyable, TidyReady, Plannable, planOf}
+use Rattle.tidying.specs.Tidy.{tidyTests, RowsPut, Puttable, Fillable, VersionPut, Tidyable, TidyReady, Plannable, planOf}
 use Rattle.tidying.specs.Tidy.{movedIn, tidyClock, tidyLog, tidiedCells, Tidied, tidyCells, Tidies}
 use Rattle.calls.proofs.Entered.{bare, Valued, valued-passed, valued-goes, valued-shows}
 use Rattle.calls.proofs.Serving.{idle, valued-refused}
@@ -69,7 +69,8 @@ module _ (clock : List ℕ) (c : Clock) (e : c ≡ clockIn clock) where
     log-tidied log log′ q = rw (q, e, n, u)
 
     pub clock-tidied : (clock′ : List ℕ)
-        → clock′ ≡ set (set (set (set clock 2 (next .stamp .0)) 3 (next .rows .0)) 4 (slots + 1)) 5 (used + moved) → clock′ ≡ tidyClock clock moved
+        → clock′ ≡ set (set (set (set clock 2 (next .stamp .0)) 3 (next .rows .0)) 4 (slots + 1)) 5 (used + moved)
+        → clock′ ≡ tidyClock clock moved
     unfolding later clockIn
     clock-tidied clock′ q = rw (q, n, s, u)
 
@@ -83,9 +84,6 @@ module _ (clock log moved : List ℕ) (s : ℕ) where
   pub plan-ticks : Plannable clock log s moved → (c : Clock) → c ≡ clockIn clock → c .stamp .0 < 4294967295
   plan-ticks f c e = stamp-fits clock c e (f .stamp-low)
 
-  pub plan-count : Plannable clock log s moved → (n : ℕ) → n ≡ countOf moved → n < 4294967296
-  plan-count f n e = omega (arith, f .few-moved)
-
   pub plan-is : (c next : Clock) (slot used wide to n m : ℕ) → c ≡ clockIn clock → next ≡ later c (c .rows) → slot ≡ slotsIn clock
       → used ≡ changesIn clock → wide ≡ used → to ≡ endAt log s → n ≡ countOf moved → m ≡ n
       → record { next = next; slot = slot; used = wide; to = to; count = m } ≡ planOf clock log s moved
@@ -93,9 +91,6 @@ module _ (clock log moved : List ℕ) (s : ℕ) where
   plan-is c next slot used wide to n m e h k u w t a b = rw (h, e, k, w, u, t, b, a)
 
 module _ (clock slots words heads log changes moved : List ℕ) (s v : ℕ) (f : TidyReady clock slots words heads log changes s v moved) where
-  pub plannable : Plannable clock log s moved
-  plannable = search arith
-
   module _ (p : Plan) (e : p ≡ planOf clock log s moved) where
     pub version-fillable : Fillable slots words heads log changes (p .slot) s v
     unfolding planOf
@@ -161,16 +156,11 @@ module _ (clock slots words heads log changes : List ℕ) (s v to : ℕ) (moved 
         f ts ∙ ap (tidiedCells (lent ts) s v) moved-is
         ∙ ap (λ (w : Option ℕ). unless w (lent ts) [] o) (sym (ap whyOf h) ∙ why-is)
 
--- what `ready` needs, and the rows that it is given
-module _ (clock slots words heads log changes : List ℕ) (s v : ℕ) (f : Tidyable clock slots words heads log changes s v) where
-  pub start-in : s ≤ 512
-  start-in = omega (arith, f .start-old, f .few-records)
-
-  pub moved-rows : (to : ℕ) → to ≡ endAt log s → RowsLow changes 0 to
-  moved-rows to e = subst (RowsLow changes 0) (sym e) (f .rows)
-
-  pub ready-needs : (6 ≤ length clock) × Datable slots heads log changes (stampIn clock) s v
-  ready-needs = search arith
+-- the changes that the moved rows are told by
+pub moved-rows : (clock slots words heads log changes : List ℕ) (s v to : ℕ) → Tidyable clock slots words heads log changes s v
+    → to ≡ endAt log s
+    → RowsLow changes 0 to
+moved-rows clock slots words heads log changes s v to f e = rw e (f .rows)
 
 -- ---- the call
 

@@ -25,11 +25,18 @@ Inv-loop changes₀ from to moved v p₀ i₀ changes p i = (i ≤ 32)
 abbrev μ-loop : tie.MeasureT-loop
 μ-loop changes₀ from to moved v p₀ i₀ changes p i = 32 - i
 
+-- the function's entry, and the outer loop, from inside the inner one
+abbrev start : (c : tie.At-loop2 Inv-loop2 μ-loop2 Inv-loop μ-loop) → tie.Start Inv-loop2 μ-loop2 Inv-loop μ-loop
+start c = c .before .before .before .before .before .before .before
+
+abbrev outer : (c : tie.At-loop2 Inv-loop2 μ-loop2 Inv-loop μ-loop) → tie.In-loop Inv-loop2 μ-loop2 Inv-loop μ-loop
+outer c = c .before .before .before
+
 -- how far the word is scanned
-scan : (c : tie.At-loop2 Inv-loop2 μ-loop2 Inv-loop μ-loop) → let a = c .before .before .before .before .before .before .before .args in
-    WordScan (a .moved .now) (a .from) (a .to) (a .v .0) (a .changes .now) (c .loop2 .changes) (c .loop2 .p) (c .before .before .before .before .loop .i)
+scan : (c : tie.At-loop2 Inv-loop2 μ-loop2 Inv-loop μ-loop) → let a = start c .args in
+    WordScan (a .moved .now) (a .from) (a .to) (a .v .0) (a .changes .now) (c .loop2 .changes) (c .loop2 .p) (outer c .before .loop .i)
     (c .loop2 .x) (c .loop2 .k)
-scan c = c .loop2 .inv _ (c .before .before .before .before .before .before .before .pre .0) (c .before .before .before .before .loop .inv .1)
+scan c = c .loop2 .inv _ (start c .pre .0) (outer c .before .loop .inv .1)
 
 -- the next set bit is in the word
 bound : (c : tie.In-loop2 Inv-loop2 μ-loop2 Inv-loop μ-loop) → c .before .loop2 .k + next (c .before .loop2 .x) < 64
@@ -38,15 +45,15 @@ bound c = next-lt _ _ _ _ _ _ _ _ _ _ (scan (c .before)) (c .loop2-test .taken)
 put-less-requires : tie.Need-put-less-requires Inv-loop2 μ-loop2 Inv-loop μ-loop
 put-less-requires c κs =
     let b = c .before .before in
-    let a = b .before .before .before in
-    next-puttable _ _ _ _ _ _ _ _ _ _ (scan b) (c .before .loop2-test .taken) (a .before .before .before .before .pre .1) (a .loop-test .taken) (a .before .before .before .before .pre .0)
+    next-puttable _ _ _ _ _ _ _ _ _ _ (scan b) (c .before .loop2-test .taken) (start b .pre .1) (outer b .loop-test .taken)
+    (start b .pre .0)
 
 loop2-again : tie.Need-loop2-again Inv-loop2 μ-loop2 Inv-loop μ-loop
 loop2-again c l g f =
-    let b = c .before .before .before .before in
-    let a = b .before .before .before in
-    scan-more _ _ _ _ l _ _ _ _ _ (b .before .loop2 .inv l g f) (b .loop2-test .taken) (a .before .before .before .before .before .pre .1) (a .before .loop-test .taken) g
-    _ _ _ (a .narrow .ensures) (c .before .before .put-less .ensures)
+    let d = c .before .before .before .before in
+    let b = d .before in
+    scan-more _ _ _ _ l _ _ _ _ _ (b .loop2 .inv l g f) (d .loop2-test .taken) (start b .pre .1) (outer b .loop-test .taken) g _ _ _
+    (b .before .before .narrow .ensures) (c .before .before .put-less .ensures)
 
 pub write-moved-spec : {M : Type 1} → statement M
 write-moved-spec =
