@@ -5,6 +5,9 @@ use borrow.Author.Needs.{needs}
 use Rattle.tidying.proofs.tidy.put_less.Statement.{statement}
 use Rattle.tidying.proofs.tidy.put_less.Tie as tie
 
+returns : tie.Need-returns
+returns c = search put-one
+
 pub put-less-spec : {M : Type 1} → statement M
 put-less-spec =
     tie.close
@@ -14,4 +17,4 @@ put-less-spec =
     (λ c κs. search needs)
     (λ c. search needs)
     (λ c. search needs)
-    (λ c. search put-one))
+    returns)
