@@ -1,16 +1,14 @@
 -- Commit on the lent tables: its changes are the rules', and what each end of `commit_now` and of the core comes to.
 -- Assumes nothing.
 use mathlib.Core.Path.{_≡_, refl, sym, ap, ap₂, _∙_}
-use mathlib.Core.Bool.{Bool, cond}
 use mathlib.Core.Option.{Option, none, some}
-use mathlib.Core.List.{List, [], _∷_, _++_}
+use mathlib.Core.List.{List, [], _∷_}
 use Prim.Native.Nat.{ℕ, suc, _+_, _≤_}
 use native.Mathlib.Numerals.{add-one}
 use native.Mathlib.Omega.{arith}
 use borrow.Author.Tests.{lt-ltb}
-use lib.ListN.{length, set}
-use Rattle.bits.specs.Bit.{flipBit}
-use Rattle.rules.specs.State.{Change, Entry, alter, add, session}
+use lib.ListN.{length}
+use Rattle.rules.specs.State.{Entry, alter, add, session}
 use Rattle.rules.specs.Lists.{inserts}
 use Rattle.rules.specs.Commit.{toggled, newSet, rowChanges, insertChanges, commitChanges}
 use Rattle.rules.proofs.Invariant.{Within, EntriesFit, SessionFits}
@@ -20,9 +18,7 @@ use Rattle.rules.specs.State as rules
 use Rattle.rules.proofs.Fits.{smallest-low}
 use Rattle.tables.specs.declared.session.Session.{Session}
 use Rattle.tables.specs.declared.refusal.Refusal.{Refusal}
-use Rattle.tables.specs.Cells.{Tables, tables, valuesIn, stampIn, rowsIn, changesIn, endAt}
-use Rattle.tables.specs.Sessions.{freed}
-use Rattle.tables.specs.Stores.{putRecord}
+use Rattle.tables.specs.Cells.{Tables, tables, valuesIn, stampIn, rowsIn, endAt}
 use Rattle.tables.specs.Meaning.{entries, meaning}
 use Rattle.tables.proofs.Facts.{parts, clock-limits}
 use Rattle.tables.proofs.Means.{values-means, rows-means}
@@ -34,14 +30,14 @@ use Rattle.lent.specs.declared.seats.Seat.{Seat}
 use Rattle.calls.specs.declared.answers.Freed.{Freed}
 use Rattle.calls.specs.declared.answers.Answer.{Answer}
 use Rattle.calls.specs.declared.enter.Test.the-variants.{Passed, No}
-use Rattle.calls.specs.Said.{Said, said, numbers}
+use Rattle.calls.specs.Said.{numbers}
 use Rattle.calls.specs.Outcome.{Outcome, outcome}
-use Rattle.calls.specs.Stores.{stores, putChanges}
+use Rattle.calls.specs.Stores.{stores}
 use Rattle.calls.specs.Calls.{commitRows, commitStores, commitOf}
 use Rattle.calls.specs.Seats.{frees, freesNone, freeing, Serves}
 use Rattle.calls.specs.Enter.{whyOf, openedBy}
 use Rattle.calls.specs.Opened.{Usable, OpenIn, Settles}
-use Rattle.committing.specs.Commit.{commitTests, toggledIn, newCells, insertCells, CommitReady, rowsAfter, changesMade, Committed}
+use Rattle.committing.specs.Commit.{commitTests, toggledIn, newCells, insertCells, CommitReady, changesMade, Committed}
 use Rattle.calls.specs.declared.enter.Test as asked
 use Rattle.calls.proofs.Entered.{opened-goes, opened-shows}
 use Rattle.calls.proofs.Serving.{idle-freeing, freed-left, refused-outcome, accepted-outcome, opened-refused}
@@ -54,21 +50,19 @@ use Rattle.committing.proofs.CommitTests.{commit-ready, commit-refusal}
 toggled-in : (C m : ℕ) (o : Option ℕ) → C ≤ 32 → Within C o → toggledIn m o ≡ toggled m o
 unfolding toggledIn toggled
 toggled-in C m none h w = refl
-toggled-in C m (some a) h w = ap (λ (b : Bool). cond b (flipBit m a) m) (lt-ltb a 32 (omega arith))
+toggled-in C m (some a) h w = rw (lt-ltb a 32 (omega arith))
 
-rows-alike : (C n : ℕ) (f g : ℕ → Option ℕ → ℕ) (es : List Entry) → EntriesFit C n es → ((r : ℕ) (b : Option ℕ) → Within C b → f r b ≡ g r b) → rowChanges f es ≡ rowChanges g es
+rows-alike : (C n : ℕ) (f g : ℕ → Option ℕ → ℕ) (es : List Entry) → EntriesFit C n es
+    → ((r : ℕ) (b : Option ℕ) → Within C b → f r b ≡ g r b) → rowChanges f es ≡ rowChanges g es
 rows-alike C n f g [] fit h = refl
-rows-alike C n f g (alter r b ∷ es) fit h =
-    ap₂ (λ (m : ℕ) (cs : List Change). record { row = r; flips = m } ∷ cs) (h r b (fit .1)) (rows-alike C n f g es (fit .2) h)
+rows-alike C n f g (alter r b ∷ es) fit h = rw (h r b (fit .1), rows-alike C n f g es (fit .2) h)
 rows-alike C n f g (add v ∷ es) fit h = rows-alike C n f g es (fit .1) h
 
 inserts-alike : (C n : ℕ) (es : List Entry) (r : ℕ) → C ≤ 32 → EntriesFit C n es → insertCells r (inserts es) ≡ insertChanges r (inserts es)
 unfolding toggled
 inserts-alike C n [] r h fit = refl
 inserts-alike C n (alter q b ∷ es) r h fit = inserts-alike C n es r h (fit .2)
-inserts-alike C n (add v ∷ es) r h fit =
-    ap₂ (λ (m : ℕ) (cs : List Change). record { row = r; flips = m } ∷ cs) (toggled-in C 0 (some v) h (fit .0))
-    (ap (λ (k : ℕ). insertCells k (inserts es)) (add-one r) ∙ inserts-alike C n es (suc r) h (fit .1))
+inserts-alike C n (add v ∷ es) r h fit = rw (toggled-in C 0 (some v) h (fit .0), add-one, inserts-alike C n es (suc r) h (fit .1))
 
 module _ (t : Tables) (n : ℕ) (x : Session) (o : OpenIn t n x) where
   few : valuesIn (t .clock) ≤ 32
@@ -76,7 +70,8 @@ module _ (t : Tables) (n : ℕ) (x : Session) (o : OpenIn t n x) where
 
   entries-fit : EntriesFit (valuesIn (t .clock)) (x .rows .0) (entries x)
   entries-fit =
-      let f : SessionFits (meaning t .values) (meaning t .first) (meaning t .log) (session (meaning t) n) = means-undamaged t (o .good) .sessions-fit n in
+      let f : SessionFits (meaning t .values) (meaning t .first) (meaning t .log) (session (meaning t) n) =
+      means-undamaged t (o .good) .sessions-fit n in
       rw (values-means t, open-session t n x o) at f .fit
 
   -- the new set of a row
@@ -95,14 +90,17 @@ module _ (t : Tables) (n : ℕ) (x : Session) (o : OpenIn t n x) where
       ∙ ap₂ toggled (flipSet-meets t (o .good) s old row) (read-meets t (o .good) s old row))
 
   -- the changes of the commit
-  pub changes-meet : changesMade (t .clock) (t .slots) (t .words) (t .heads) (t .log) (t .changes) x ≡ commitChanges (meaning t) (x .start .0) (entries x)
+  pub changes-meet : changesMade (t .clock) (t .slots) (t .words) (t .heads) (t .log) (t .changes) x ≡ commitChanges (meaning t)
+      (x .start .0) (entries x)
   unfolding commitChanges
   changes-meet =
-      ap₂ (λ (cs ds : List Change). cs ++ ds)
-      (rows-alike (valuesIn (t .clock)) (x .rows .0) (newCells (t .slots) (t .words) (t .heads) (t .log) (t .changes) (valuesIn (t .clock)) (x .start .0))
-      (newSet (meaning t .values) (meaning t .log) (meaning t .chains) (x .start .0) (x .start .0)) (entries x) entries-fit set-meets)
-      (inserts-alike (valuesIn (t .clock)) (x .rows .0) (entries x) (rowsIn (t .clock)) few entries-fit
-      ∙ ap (λ (r : ℕ). insertChanges r (inserts (entries x))) (sym (rows-means t)))
+      rw (
+        rows-alike (valuesIn (t .clock)) (x .rows .0) _ (newSet (meaning t .values) (meaning t .log) (meaning t .chains) (x .start .0)
+            (x .start .0))
+            (entries x) entries-fit set-meets,
+        inserts-alike (valuesIn (t .clock)) (x .rows .0) (entries x) (rowsIn (t .clock)) few entries-fit,
+        rows-means t,
+      )
 
 -- ---- the ends
 
@@ -113,15 +111,6 @@ module _ (clock slots words heads log changes : List ℕ) where
   -- what an accepted commit leaves and answers
   abbrev wrote : ℕ → Tables → Outcome
   wrote n t = outcome (stores t (commitStores t n)) [] (numbers ((stampIn (t .clock) + 1) ∷ commitRows t n ∷ []))
-
-  -- the same table by table, of the session that it is
-  abbrev tabled : List Session → ℕ → Session → Outcome
-  tabled ts n y =
-      outcome
-      (tables (set (set (set clock 2 (stampIn clock + 1)) 3 (rowsAfter clock y)) 5 (changesIn clock + y .count)) slots words heads
-      (putRecord log (stampIn clock) 1 (rowsAfter clock y) (changesIn clock + y .count))
-      (putChanges changes (changesIn clock) (commitChanges (meaning (lent ts)) (y .start .0) (entries y))) (set ts n freed)) []
-      (numbers ((stampIn clock + 1) ∷ rowsAfter clock y ∷ []))
 
   module _ (x : Session) (n : ℕ) (go : asked.Test) (q : whyOf go ≡ firstOf (commitTests clock log changes x)) where
     pub now-refused : (why : Refusal) (d : Freed) → go ≡ No why → d ≡ freesNone why
@@ -142,17 +131,9 @@ module _ (clock slots words heads log changes : List ℕ) where
       unfolding commitOf
       now-done clock′ log′ changes′ a d c k ts o =
           let t = lent ts in
-          let made : List ℕ → List ℕ → List ℕ → Said → Outcome =
-          λ cl lg ch s. outcome (tables cl slots words heads lg ch (set ts n freed)) [] s in
           freed-left (tables clock′ slots words heads log′ changes′ ts) [] n d a (o .place-low) k
-          ∙ ap₂ (λ (cl lg : List ℕ). made cl lg changes′ (said a)) (c .recorded .clock-is) (c .recorded .log-is)
-          ∙ ap₂ (λ (ch : List ℕ) (s : Said).
-          made (set (set (set clock 2 (stampIn clock + 1)) 3 (rowsAfter clock x)) 5 (changesIn clock + x .count))
-          (putRecord log (stampIn clock) 1 (rowsAfter clock x) (changesIn clock + x .count)) ch s)
-          (c .stored ∙ ap (putChanges changes (changesIn clock)) (changes-meet t n x o)) (c .recorded .says)
-          ∙ ap (tabled ts n) (sym (o .own-there))
-          ∙ sym (ap (λ (u : Tables). outcome u [] (numbers ((stampIn clock + 1) ∷ commitRows t n ∷ []))) (commit-stores t n))
-          ∙ sym (accepted-outcome t [] (commit n) (wrote n t) (commit-refusal t n x o ∙ sym q ∙ ap whyOf h))
+          ∙ rw (c .recorded .clock-is, c .recorded .log-is, c .recorded .says, c .stored, changes-meet t n x o, ← o .own-there)
+          (sym (accepted-outcome t [] (commit n) (wrote n t) (commit-refusal t n x o ∙ sym q ∙ ap whyOf h) ∙ rw (commit-stores t n)))
 
   -- ---- the core
 

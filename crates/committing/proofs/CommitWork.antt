@@ -1,7 +1,7 @@
 -- A commit that is not refused: what its parts need, and what they leave together.
 -- Assumes nothing.
-use mathlib.Core.Path.{_≡_, refl, sym, ap, ap₂, _∙_, subst}
-use mathlib.Core.List.{List, [], _∷_, _++_}
+use mathlib.Core.Path.{_≡_, refl, sym, ap, _∙_}
+use mathlib.Core.List.{List, [], _∷_}
 use mathlib.Core.Option.{Option}
 use Prim.Native.Nat.{ℕ, _+_, _≤_, _<_}
 use native.Mathlib.Omega.{arith}
@@ -21,7 +21,8 @@ use Rattle.tables.proofs.Means.{length-entries}
 use Rattle.history.proofs.Ready.{read-ready}
 use Rattle.calls.specs.declared.answers.Answer.{Answer}
 use Rattle.calls.specs.Stores.{putChanges}
-use Rattle.committing.specs.Commit.{newCells, insertCells, RowsReady, RowsStored, InsertsReady, Recorded, CommitReady, rowsAfter, changesMade, Committed}
+use Rattle.committing.specs.Commit.{newCells, insertCells, RowsReady, RowsStored, InsertsReady, Recorded, CommitReady}
+use Rattle.committing.specs.Commit.{changesMade, Committed}
 use Rattle.calls.proofs.Entered.{bare}
 use Rattle.calls.proofs.StoreLaws.{length-changes, changes-append}
 
@@ -56,22 +57,18 @@ module _ (clock slots words heads log changes : List ℕ) (x : Session) (ready :
   pub work-stamp : stampIn clock < 512
   work-stamp = ready .stamp-low
 
-  pub work-count : x .count ≤ 32
-  work-count = ready .usable .count-low
-
   -- where the changes start
   module _ (used from : ℕ) (p : used ≡ changesIn clock) (q : from ≡ used) where
     pub work-rows : RowsReady clock slots words heads log changes x from
-    work-rows = record {
-      clock-room = room .clock-room;
-      readable = read-ready t (ready .usable .room) (ready .usable .good) (x .start .0) (ready .usable .start-old);
-      count-low = ready .usable .count-low;
-      start-before = omega (arith, end-high clock log (parts t (ready .usable .good) .records-fit) (x .start .0) (ready .usable .start-old));
-      places-low = omega (arith, ready .places-low);
-    }
+    work-rows =
+        let u = ready .usable in
+        let readable = read-ready t (u .room) (u .good) (x .start .0) (u .start-old) in
+        let old = end-high clock log (parts t (u .good) .records-fit) (x .start .0) (u .start-old) in
+        search (room, arith)
 
     -- the rows are written up to place e
-    module _ (c : Clock) (k : c ≡ clockIn clock) (changes₁ : List ℕ) (e : ℕ) (s : RowsStored sets x from changes changes₁ (x .count) e) where
+    module _ (c : Clock) (k : c ≡ clockIn clock) (changes₁ : List ℕ) (e : ℕ)
+        (s : RowsStored sets x from changes changes₁ (x .count) e) where
       pub work-inserts : InsertsReady changes₁ x e (c .rows .0)
       unfolding clockIn
       work-inserts = record {
@@ -84,32 +81,19 @@ module _ (clock slots words heads log changes : List ℕ) (x : Session) (ready :
       pub work-changes : (changes₂ : List ℕ) → changes₂ ≡ putChanges changes₁ e (insertCells (c .rows .0) (inserts (entries x)))
           → changes₂ ≡ putChanges changes (changesIn clock) (changesMade clock slots words heads log changes x)
       unfolding clockIn
-      work-changes changes₂ w =
-          let vs = inserts (entries x) in
-          w ∙ ap₂ (λ (l : List ℕ) (j : ℕ). putChanges l j (insertCells (c .rows .0) vs)) (s .stored) (s .place)
-          ∙ sym (changes-append changes from (rowChanges sets (entries x)) (insertCells (c .rows .0) vs))
-          ∙ ap₂ (λ (j : ℕ) (d : Clock). putChanges changes j (rowChanges sets (entries x) ++ insertCells (d .rows .0) vs)) (q ∙ p) k
+      work-changes changes₂ w = rw (w, s .stored, s .place, k, q, p)
+          (sym (changes-append changes (changesIn clock) (rowChanges sets (entries x)) _))
 
   -- its record and its changes
   pub work-done : (c : Clock) (used m : ℕ) (clock′ log′ changes′ : List ℕ) (a : Answer) → c ≡ clockIn clock → used ≡ changesIn clock
-      → m ≡ length (inserts (entries x)) → changes′ ≡ putChanges changes (changesIn clock) (changesMade clock slots words heads log changes x)
+      → m ≡ length (inserts (entries x)) → changes′ ≡ putChanges changes (changesIn clock)
+      (changesMade clock slots words heads log changes x)
       → Recorded clock log (c .rows .0 + m) (used + x .count) clock′ log′ a
       → Committed clock slots words heads log changes x clock′ log′ changes′ a
   unfolding clockIn
-  work-done c used m clock′ log′ changes′ a k p u w r =
-      let rows : c .rows .0 + m ≡ rowsAfter clock x = ap₂ (λ (d : Clock) (j : ℕ). d .rows .0 + j) k u in
-      let end : used + x .count ≡ changesIn clock + x .count = ap (λ (j : ℕ). j + x .count) p in
-      record {
-        recorded =
-            subst (λ (j : ℕ). Recorded clock log j (changesIn clock + x .count) clock′ log′ a) rows
-            (subst (λ (j : ℕ). Recorded clock log (c .rows .0 + m) j clock′ log′ a) end r);
-        stored = w;
-      }
+  work-done c used m clock′ log′ changes′ a k p u w r = record { recorded = rw (k, u, p) at r; stored = w }
 
-  -- the row count after it, and the end of its changes, are small
+  -- the row count after it is small
   pub work-rows-few : (c : Clock) (m : ℕ) → c ≡ clockIn clock → m ≡ length (inserts (entries x)) → Fits w32 (c .rows .0 + m)
   unfolding clockIn
-  work-rows-few c m k u = omega (arith, ap (λ (d : Clock). d .rows .0) k, limits .few-rows, every, ready .usable .count-low)
-
-  pub work-end-few : (used : ℕ) → used ≡ changesIn clock → Fits w32 (used + x .count)
-  work-end-few used p = omega (arith, ready .places-low)
+  work-rows-few c m k u = rw k (omega (arith, limits .few-rows, every, ready .usable .count-low))

@@ -1,6 +1,6 @@
 -- What an accepted commit writes, step by step: flip sets, the changes of the listed rows and of the inserts, the record.
 -- Assumes nothing.
-use mathlib.Core.Path.{_≡_, refl, sym, ap, ap₂, _∙_, subst}
+use mathlib.Core.Path.{_≡_, refl, sym, ap, ap₂, _∙_}
 use mathlib.Core.Option.{Option, some}
 use mathlib.Core.List.{List, [], _∷_, _++_}
 use Prim.Native.Nat.{ℕ, suc, _+_, _≤_, _<_}
@@ -9,7 +9,6 @@ use borrow.Author.Tests.{lt-ltb, le-ltb}
 use lib.ListN.{length, getD, set, length-append}
 use Rattle.bits.specs.Bit.{flipBit}
 use Rattle.bits.specs.Tab.{tab}
-use Rattle.rules.specs.State.{Change, Entry, alter, add}
 use Rattle.rules.specs.Lists.{inserts}
 use Rattle.rules.specs.Commit.{rowChanges}
 use Rattle.rules.proofs.Shapes.{inserts-append}
@@ -32,9 +31,9 @@ use Rattle.history.specs.Read.{standingOf, readCells, readAfter, Readable, Read
 use Rattle.history.proofs.ReadLaws.{read-is}
 use Rattle.history.proofs.Kept.{set-kept, read-kept}
 use Rattle.calls.specs.declared.answers.Answer.the-variants.{At}
-use Rattle.calls.specs.Said.{numbers}
 use Rattle.calls.specs.Stores.{putChanges}
-use Rattle.committing.specs.Commit.{toggledIn, newCells, insertCells, RowReady, RowsReady, RowsStored, InsertsReady, InsertsStored, Recorded}
+use Rattle.committing.specs.Commit.{toggledIn, newCells, insertCells, RowReady, RowsReady, RowsStored, InsertsReady, InsertsStored}
+use Rattle.committing.specs.Commit.{Recorded}
 use Rattle.calls.proofs.StoreLaws.{changes-before, changes-snoc}
 use Rattle.calls.proofs.ListLaws.{inserts-new, inserts-row, rows-new, rows-row}
 
@@ -68,33 +67,29 @@ module _ (clock slots words heads log changes : List ℕ) (s : ℕ) (c : Clock) 
   unfolding newCells clockIn lastOf
   new-is row to end last held target a r e l h p q z =
       z ∙ ap₂ toggledIn (p ∙ ap₂ toggledIn (ap (λ (y : Last). y .set) l ∙ ap (λ (n : ℕ). lastSet changes 0 n row) e)
-      (read-is slots words heads log changes (c .values .0) s row end last (standingOf held) e l h ∙ ap (λ (d : Clock). readCells slots words heads log changes (d .values .0) s row) k)) q
+      (read-is slots words heads log changes (c .values .0) s row end last (standingOf held) e l h
+      ∙ ap (λ (d : Clock). readCells slots words heads log changes (d .values .0) s row) k)) q
 
 -- ---- the change of one row
 
 pub row-written : (clock slots words heads log changes changes′ : List ℕ) (x : Session) (i p row set : ℕ) → row ≡ getD (x .at) i 0
-    → set ≡ newCells slots words heads log changes (valuesIn clock) (x .start .0) row (targetOf (getD (x .to) i 0)) → changes′ ≡ putChange changes p row set
-    → changes′ ≡ putChange changes p (getD (x .at) i 0) (newCells slots words heads log changes (valuesIn clock) (x .start .0) (getD (x .at) i 0) (targetOf (getD (x .to) i 0)))
-row-written clock slots words heads log changes changes′ x i p row set e q z =
-    z ∙ ap₂ (putChange changes p) e (q ∙ ap (λ (r : ℕ). newCells slots words heads log changes (valuesIn clock) (x .start .0) r (targetOf (getD (x .to) i 0))) e)
+    → set ≡ newCells slots words heads log changes (valuesIn clock) (x .start .0) row (targetOf (getD (x .to) i 0))
+    → changes′ ≡ putChange changes p row set
+    → changes′ ≡ putChange changes p (getD (x .at) i 0) (newCells slots words heads log changes (valuesIn clock) (x .start .0)
+    (getD (x .at) i 0) (targetOf (getD (x .to) i 0)))
+row-written clock slots words heads log changes changes′ x i p row set e q z = rw (z, q, e)
 
 -- ---- the table's length stays
 
 module _ (changes changes′ changes″ : List ℕ) (e : length changes′ ≡ length changes) where
-  pub length-put : (stored : List ℕ) (p row set : ℕ) → changes″ ≡ stored → stored ≡ putChange changes′ p row set → length changes″ ≡ length changes
+  pub length-put : (stored : List ℕ) (p row set : ℕ) → changes″ ≡ stored → stored ≡ putChange changes′ p row set
+      → length changes″ ≡ length changes
   length-put stored p row set y z = ap length (y ∙ z) ∙ length-change changes′ p row set ∙ e
-
-  pub length-kept : changes″ ≡ changes′ → length changes″ ≡ length changes
-  length-kept z = ap length z ∙ e
 
 -- ---- the changes of all rows
 
-length-rows : (g : ℕ → Option ℕ → ℕ) (es : List Entry) → length (rowChanges g es) ≤ length es
-length-rows g [] = omega arith
-length-rows g (alter r t ∷ es) = omega (arith, length-rows g es)
-length-rows g (add v ∷ es) = omega (arith, length-rows g es)
-
-module _ (clock slots words heads log changes : List ℕ) (x : Session) (from : ℕ) (ready : RowsReady clock slots words heads log changes x from) where
+module _ (clock slots words heads log changes : List ℕ) (x : Session) (from : ℕ)
+    (ready : RowsReady clock slots words heads log changes x from) where
   abbrev sets : ℕ → Option ℕ → ℕ
   sets = newCells slots words heads log changes (valuesIn clock) (x .start .0)
 
@@ -106,13 +101,7 @@ module _ (clock slots words heads log changes : List ℕ) (x : Session) (from : 
     pub row-ready : i < n → length changes′ ≡ length changes → RowReady clock slots words heads log changes′ x i p
     row-ready l e = record {
       clock-room = ready .clock-room;
-      readable = record {
-        readable = ready .readable .readable;
-        stamp-low = ready .readable .stamp-low;
-        log-room = ready .readable .log-room;
-        changes-room = omega (arith, ready .readable .changes-room);
-        end-low = ready .readable .end-low;
-      };
+      readable = search (ready .readable, arith);
       entry-low = omega (arith, ready .count-low);
       place-low = omega (arith, ready .places-low);
     }
@@ -125,40 +114,37 @@ module _ (clock slots words heads log changes : List ℕ) (x : Session) (from : 
         let low : from + length cs ≤ 2048 = omega (arith, s .place, q, m, l, ready .places-low) in
         let same : (j : ℕ) → j < from → changeAt changes′ j ≡ changeAt changes j =
         λ j h. ap (λ (c : List ℕ). changeAt c j) (s .stored) ∙ changes-before changes from cs low j h in
-        ap₂ (λ (a : ℕ) (o : Option ℕ). toggledIn (toggledIn a o) b) (set-kept changes′ changes from same 0 (endAt log (x .start .0)) row (ready .start-before))
+        ap₂ (λ (a : ℕ) (o : Option ℕ). toggledIn (toggledIn a o) b)
+        (set-kept changes′ changes from same 0 (endAt log (x .start .0)) row (ready .start-before))
         (read-kept changes′ changes from same slots words heads log (valuesIn clock) (x .start .0) row (ready .start-before))
 
     pub rows-more : (changes″ stored : List ℕ) (p′ : ℕ) → i < n → (getD (x .at) i 0 ≡ 65535 → ⊥) → changes″ ≡ stored
-        → stored ≡ putChange changes′ p (getD (x .at) i 0) (newCells slots words heads log changes′ (valuesIn clock) (x .start .0) (getD (x .at) i 0) (targetOf (getD (x .to) i 0)))
+        → stored ≡ putChange changes′ p (getD (x .at) i 0) (newCells slots words heads log changes′ (valuesIn clock) (x .start .0)
+        (getD (x .at) i 0) (targetOf (getD (x .to) i 0)))
         → p′ ≡ p + 1 → RowsStored sets x from changes changes″ (i + 1) p′
     rows-more changes″ stored p′ l old y w u =
         let cs = rowChanges sets (tab (entryAt x) i) in
         let row = getD (x .at) i 0 in
         let b = targetOf (getD (x .to) i 0) in
+        let one = length-append cs (record { row = row; flips = sets row b } ∷ []) in
         record {
           stored =
-              y ∙ w ∙ ap (putChange changes′ p row) (new-kept (omega arith) row b)
-              ∙ ap₂ (λ (c : List ℕ) (j : ℕ). putChange c j row (sets row b)) (s .stored) (s .place)
-              ∙ sym (changes-snoc changes from cs (record { row = row; flips = sets row b }))
-              ∙ ap (putChanges changes from) (sym (rows-row x i old sets));
-          place =
-              u ∙ omega (arith, s .place, ap length (rows-row x i old sets), length-append cs (record { row = row; flips = sets row b } ∷ []));
+              rw (y, w, new-kept (omega arith) row b, s .stored, s .place, rows-row x i old sets)
+              (sym (changes-snoc changes from cs (record { row = row; flips = sets row b })));
+          place = u ∙ omega (arith, s .place, ap length (rows-row x i old sets), one);
         }
 
-    pub rows-skip : (changes″ : List ℕ) (p′ : ℕ) → getD (x .at) i 0 ≡ 65535 → changes″ ≡ changes′ → p′ ≡ p → RowsStored sets x from changes changes″ (i + 1) p′
+    pub rows-skip : (changes″ : List ℕ) (p′ : ℕ) → getD (x .at) i 0 ≡ 65535 → changes″ ≡ changes′ → p′ ≡ p
+        → RowsStored sets x from changes changes″ (i + 1) p′
     rows-skip changes″ p′ new w u = record {
-      stored = w ∙ s .stored ∙ ap (putChanges changes from) (sym (rows-new x i new sets));
-      place = u ∙ s .place ∙ ap (λ (cs : List Change). from + length cs) (sym (rows-new x i new sets));
+      stored = rw (w, s .stored, rows-new x i new sets);
+      place = rw (u, s .place, rows-new x i new sets);
     }
 
     pub rows-all : n ≤ i → i ≤ n → RowsStored sets x from changes changes′ (x .count) p
-    rows-all l h = let z : i ≡ x .count = omega arith in subst (λ (k : ℕ). RowsStored sets x from changes changes′ k p) z s
+    rows-all l h = let z : i ≡ x .count = omega arith in rw z at s
 
 -- ---- the changes of the inserts
-
-pub insert-written : (changes changes′ : List ℕ) (x : Session) (i p row set : ℕ) (v : Value) → v .0 ≡ getD (x .to) i 0 → set ≡ toggledIn 0 (standingOf (Holds v))
-    → changes′ ≡ putChange changes p row set → changes′ ≡ putChange changes p row (toggledIn 0 (some (getD (x .to) i 0)))
-insert-written changes changes′ x i p row set v e q z = z ∙ ap (putChange changes p row) (q ∙ ap (λ (k : ℕ). toggledIn 0 (some k)) e)
 
 pub length-insertCells : (n : ℕ) (vs : List ℕ) → length (insertCells n vs) ≡ length vs
 length-insertCells n [] = refl
@@ -168,16 +154,14 @@ insertCells-snoc : (n : ℕ) (vs : List ℕ) (v : ℕ)
     → insertCells n (vs ++ (v ∷ [])) ≡ insertCells n vs ++ (record { row = n + length vs; flips = toggledIn 0 (some v) } ∷ [])
 insertCells-snoc n [] v = let e : n ≡ n + 0 = omega arith in ap (λ (r : ℕ). record { row = r; flips = toggledIn 0 (some v) } ∷ []) e
 insertCells-snoc n (w ∷ vs) v =
-    let e : n + 1 + length vs ≡ n + suc (length vs) = omega arith in
-    ap (λ (cs : List Change). record { row = n; flips = toggledIn 0 (some w) } ∷ cs)
-    (insertCells-snoc (n + 1) vs v ∙ ap (λ (r : ℕ). insertCells (n + 1) vs ++ (record { row = r; flips = toggledIn 0 (some v) } ∷ [])) e)
+    let e : n + 1 + length vs ≡ n + suc (length vs) = omega arith in rw (insertCells-snoc (n + 1) vs v, e)
 
 -- the first i entries have no more inserts than all
 inserts-few : (x : Session) (i n : ℕ) → i ≤ n → length (inserts (tab (entryAt x) i)) ≤ length (inserts (tab (entryAt x) n))
 inserts-few x i n h =
     let f = entryAt x in
-    let e : tab f n ≡ tab f i ++ stretch f i n = tab-stretch f n ∙ sym (stretch-join f 0 i n (omega arith) h) ∙ ap (λ (es : List Entry). es ++ stretch f i n) (sym (tab-stretch f i)) in
-    let q : inserts (tab f n) ≡ inserts (tab f i) ++ inserts (stretch f i n) = ap inserts e ∙ inserts-append (tab f i) (stretch f i n) in
+    let q : inserts (tab f n) ≡ inserts (tab f i) ++ inserts (stretch f i n) =
+    rw (tab-stretch f n, tab-stretch f i, ← stretch-join f 0 i n (omega arith) h) (inserts-append (stretch f 0 i) (stretch f i n)) in
     omega (arith, ap length q, length-append (inserts (tab f i)) (inserts (stretch f i n)))
 
 module _ (changes : List ℕ) (x : Session) (from rows : ℕ) where
@@ -207,12 +191,8 @@ module _ (changes : List ℕ) (x : Session) (from rows : ℕ) where
         let one = length-append sofar (to ∷ []) in
         record {
           stored =
-              y ∙ w
-              ∙ ap₂ (λ (c : List ℕ) (j : ℕ). putChange c j (row .0) (toggledIn 0 (some to))) (s .stored)
-              (s .place ∙ ap (λ (k : ℕ). from + k) (sym (length-insertCells rows sofar)))
-              ∙ ap (λ (a : ℕ). putChange (putChanges changes from (insertCells rows sofar)) (from + length (insertCells rows sofar)) a (toggledIn 0 (some to))) (s .next-row)
-              ∙ sym (changes-snoc changes from (insertCells rows sofar) (record { row = rows + length sofar; flips = toggledIn 0 (some to) }))
-              ∙ ap (putChanges changes from) (sym (ap (insertCells rows) (inserts-new x i new) ∙ insertCells-snoc rows sofar to));
+              rw (y, w, s .stored, s .place, s .next-row, inserts-new x i new, insertCells-snoc rows sofar to)
+              (sym (changes-snoc changes from (insertCells rows sofar) _ ∙ rw length-insertCells));
           place = u ∙ omega (arith, s .place, ap length (inserts-new x i new), one);
           next-row = ap (λ (q : Row). q .0) k ∙ z ∙ omega (arith, s .next-row, ap length (inserts-new x i new), one);
         }
@@ -220,13 +200,13 @@ module _ (changes : List ℕ) (x : Session) (from rows : ℕ) where
     pub inserts-skip : (changes″ : List ℕ) (p′ : ℕ) (row′ : Row) → (getD (x .at) i 0 ≡ 65535 → ⊥) → changes″ ≡ changes′ → p′ ≡ p
         → row′ ≡ row → InsertsStored x from rows changes changes″ (i + 1) p′ (row′ .0)
     inserts-skip changes″ p′ row′ old w u z = record {
-      stored = w ∙ s .stored ∙ ap (λ (vs : List ℕ). putChanges changes from (insertCells rows vs)) (sym (inserts-row x i old));
-      place = u ∙ s .place ∙ ap (λ (vs : List ℕ). from + length vs) (sym (inserts-row x i old));
-      next-row = ap (λ (q : Row). q .0) z ∙ s .next-row ∙ ap (λ (vs : List ℕ). rows + length vs) (sym (inserts-row x i old));
+      stored = rw (w, s .stored, inserts-row x i old);
+      place = rw (u, s .place, inserts-row x i old);
+      next-row = rw (z, s .next-row, inserts-row x i old);
     }
 
     pub inserts-all : n ≤ i → i ≤ n → changes′ ≡ putChanges changes from (insertCells rows (inserts (entries x)))
-    inserts-all l h = let z : i ≡ x .count = omega arith in s .stored ∙ ap (λ (k : ℕ). putChanges changes from (insertCells rows (inserts (tab (entryAt x) k)))) z
+    inserts-all l h = let z : i ≡ x .count = omega arith in rw z at s .stored
 
 -- ---- the record and the clock
 
@@ -239,12 +219,13 @@ module _ (clock log : List ℕ) (c : Clock) (k : c ≡ clockIn clock) where
   unfolding clockIn
   record-low h = rw k h
 
-  pub recorded-is : (rows : Row) (end : ℕ) (next : Clock) (clock₁ clock′ log′ : List ℕ) → next ≡ later c rows → log′ ≡ putRecord log (c .stamp .0) 1 (rows .0) end
+  pub recorded-is : (rows : Row) (end : ℕ) (next : Clock) (clock₁ clock′ log′ : List ℕ) → next ≡ later c rows
+      → log′ ≡ putRecord log (c .stamp .0) 1 (rows .0) end
       → clock₁ ≡ putMoment clock (next .stamp .0) (next .rows .0) → clock′ ≡ putChangesUsed clock₁ end
       → Recorded clock log (rows .0) end clock′ log′ (At (next .stamp) rows)
   unfolding clockIn later putMoment putChangesUsed
   recorded-is rows end next clock₁ clock′ log′ e p q r = record {
-    clock-is = r ∙ ap (λ (l : List ℕ). set l 5 end) (q ∙ ap (λ (d : Clock). set (set clock 2 (d .stamp .0)) 3 (d .rows .0)) (e ∙ ap (λ (d : Clock). later d rows) k));
-    log-is = p ∙ ap (λ (d : Clock). putRecord log (d .stamp .0) 1 (rows .0) end) k;
-    says = ap (λ (d : Clock). numbers (d .stamp .0 ∷ rows .0 ∷ [])) (e ∙ ap (λ (d : Clock). later d rows) k);
+    clock-is = rw (r, q, e, k);
+    log-is = rw (p, k);
+    says = rw (e, k);
   }

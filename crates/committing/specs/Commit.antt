@@ -10,13 +10,15 @@ use lib.ListN.{length, set}
 use Rattle.bits.specs.Bit.{flipBit}
 use Rattle.bits.specs.Tab.{tab}
 use Rattle.rules.specs.State.{Change}
+use Rattle.rules.specs.Log.{above, changesOf}
 use Rattle.rules.specs.Lists.{inserts}
 use Rattle.rules.specs.Commit.{rowChanges, conflicts}
 use Rattle.rules.specs.Refusals.{Test}
 use Rattle.tables.specs.declared.session.Session.{Session}
 use Rattle.tables.specs.Cells.{valuesIn, stampIn, rowsIn, changesIn, endAt}
 use Rattle.tables.specs.Stores.{putRecord}
-use Rattle.tables.specs.Meaning.{recordAt, entryAt, entries}
+use Rattle.tables.specs.Meaning.{changeAt, recordAt, entryAt, entries}
+use Rattle.tables.specs.Stretch.{stretch}
 use Rattle.history.specs.Last.{lastSet}
 use Rattle.history.specs.Read.{readCells, ReadReady}
 use Rattle.calls.specs.declared.answers.Answer.{Answer}
@@ -26,13 +28,16 @@ use Rattle.calls.specs.Opened.{Usable}
 
 -- ---- the search for a clash
 
--- what it needs: the ends of the changes lie in their table
+-- what it needs: the ends of the changes lie in their table, and the changes after the start stand there as one stretch
 pub record Searched (log changes : List ℕ) (x : Session) (last : ℕ) : Type 0 where
   pub log-room : 2048 ≤ length log
   pub changes-room : 4096 ≤ length changes
   pub last-low : last ≤ 512
   pub count-low : x .count ≤ 32
   pub ends-low : (k : ℕ) → k ≤ last → endAt log k ≤ 2048
+  pub start-old : x .start .0 ≤ last
+  pub one-stretch : changesOf (above (tab (recordAt log changes) last) (x .start .0))
+      ≡ stretch (changeAt changes) (endAt log (x .start .0)) (endAt log last)
 
 -- ---- 11, 12, 15, 16 and 17, on the cells
 
@@ -126,9 +131,11 @@ rowsAfter clock x = rowsIn clock + length (inserts (entries x))
 -- its changes: "listed rows first, inserts after"
 abbrev pub changesMade : List ℕ → List ℕ → List ℕ → List ℕ → List ℕ → List ℕ → Session → List Change
 changesMade clock slots words heads log changes x =
-    rowChanges (newCells slots words heads log changes (valuesIn clock) (x .start .0)) (entries x) ++ insertCells (rowsIn clock) (inserts (entries x))
+    let sets = newCells slots words heads log changes (valuesIn clock) (x .start .0) in
+    rowChanges sets (entries x) ++ insertCells (rowsIn clock) (inserts (entries x))
 
 -- the tables after it, and its answer
-pub record Committed (clock slots words heads log changes : List ℕ) (x : Session) (clock′ log′ changes′ : List ℕ) (a : Answer) : Type 0 where
+pub record Committed (clock slots words heads log changes : List ℕ) (x : Session) (clock′ log′ changes′ : List ℕ)
+    (a : Answer) : Type 0 where
   pub recorded : Recorded clock log (rowsAfter clock x) (changesIn clock + x .count) clock′ log′ a
   pub stored : changes′ ≡ putChanges changes (changesIn clock) (changesMade clock slots words heads log changes x)

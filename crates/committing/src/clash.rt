@@ -2,14 +2,11 @@
 use tables::Session;
 use tables::Stamp;
 ghost use mathlib.Core.Path.{_≡_};
-ghost use mathlib.Core.Bool.{true, false, cond};
-ghost use Prim.Native.Nat.{ℕ, suc, _<_, _≤_};
-ghost use lib.Dec.{eqb};
+ghost use Prim.Native.Nat.{_<_, _≤_};
 ghost use lib.ListN.{length};
 ghost use Rattle.bits.specs.Tab.{tab};
 ghost use Rattle.rules.specs.Commit.{conflicts, someOf, hits};
 ghost use Rattle.rules.specs.Log.{names};
-ghost use Rattle.tables.specs.Cells.{endAt};
 ghost use Rattle.tables.specs.Meaning.{changeAt, recordAt, entryAt, entries};
 ghost use Rattle.tables.specs.Stretch.{stretch};
 ghost use Rattle.committing.specs.Commit.{Searched};
@@ -55,55 +52,23 @@ fn entries_named(changes: &[u32], from: usize, to: usize, s: Session, n: usize) 
     false
 }
 
-// A stamp, or 1 for stamp 0.
-fn first_of(start: Stamp) -> usize
-    ensures { λ r. ⌜ r ≡ cond (eqb (start .0) 0) 1 (start .0) ⌝ }
-{
-    let k = bits::wide(start.0);
-    if k == 0 { 1 } else { k }
-}
-
-// Whether ends, where they lie in their table, do not fall from a start to the last stamp: how far each is above the one before
-// is gathered, modulo 2 ^ 32.
-fn ends_rise(log: &[u32], start: Stamp, last: Stamp) -> bool
-    requires { ⌜ (last .0 ≤ 512) × (2048 ≤ length (now log)) ⌝ }
-    ensures { λ r. ⌜ (r ≡ true → (k : ℕ) → start .0 ≤ k → k < last .0 → endAt (now (log .entry)) k ≤ 2048
-        → endAt (now (log .entry)) k ≤ endAt (now (log .entry)) (suc k)) ⌝ }
-{
-    let n = bits::wide(last.0);
-    let mut off: u32 = 0;
-    let mut j = first_of(start);
-    while j < n {
-        off = off | std::num::wrapping_sub_u32(log[1536 + j], log[1535 + j]);
-        j += 1;
-    }
-    off < 4194304
-}
-
-// Whether the changes after the start, asked as one stretch, name no listed row. False where they are no such stretch.
-fn none_named(log: &[u32], changes: &[u32], s: Session, last: Stamp) -> bool
+// Whether the changes after the start, asked as one stretch, name a listed row.
+fn any_named(log: &[u32], changes: &[u32], s: Session, last: Stamp) -> bool
     requires { ⌜ Searched (now log) (now changes) s (last .0) ⌝ }
-    ensures { λ r. ⌜ (r ≡ true
-        → false ≡ conflicts (tab (recordAt (now (log .entry)) (now (changes .entry))) (last .0)) (s .start .0) (entries s)) ⌝ }
+    ensures { λ r. ⌜ r ≡ conflicts (tab (recordAt (now (log .entry)) (now (changes .entry))) (last .0)) (s .start .0) (entries s) ⌝ }
 {
-    let start = s.start;
-    if last.0 < start.0 {
-        return false;
-    }
-    if !ends_rise(log, start, last) {
-        return false;
-    }
-    let from = tables::end_at(log, start);
+    let from = tables::end_at(log, s.start);
     let to = tables::end_at(log, last);
-    !entries_named(changes, from, to, s, bits::wide(s.count))
+    entries_named(changes, from, to, s, bits::wide(s.count))
 }
 
-// Whether a record after the start names a listed row: one straight pass first, and then a search that stops at the first that does.
+// Whether a record after the start names a listed row: one straight pass, which says no at once, and then the search, which stops at the
+// first that does.
 pub fn clash(log: &[u32], changes: &[u32], s: Session, last: Stamp) -> bool
     requires { ⌜ Searched (now log) (now changes) s (last .0) ⌝ }
     ensures { λ r. ⌜ r ≡ conflicts (tab (recordAt (now (log .entry)) (now (changes .entry))) (last .0)) (s .start .0) (entries s) ⌝ }
 {
-    if none_named(log, changes, s, last) {
+    if !any_named(log, changes, s, last) {
         return false;
     }
     let start = s.start;

@@ -54,7 +54,11 @@ fn commit_now(
     n: u64,
 ) -> Freed
     requires { ⌜ Usable (now clock) (now slots) (now words) (now heads) (now log) (now changes) s ⌝ }
-    ensures { λ r. ⌜ Settles (tables (now (clock .entry)) (now (slots .entry)) (now (words .entry)) (now (heads .entry)) (now (log .entry)) (now (changes .entry))) (tables (now (clock .exit)) (now (slots .entry)) (now (words .entry)) (now (heads .entry)) (now (log .exit)) (now (changes .exit))) s n (freeing r n) (r .answer) (λ t. commitOf t n) ⌝ }
+    ensures { λ r. ⌜ Settles
+        (tables (now (clock .entry)) (now (slots .entry)) (now (words .entry)) (now (heads .entry)) (now (log .entry))
+        (now (changes .entry)))
+        (tables (now (clock .exit)) (now (slots .entry)) (now (words .entry)) (now (heads .entry)) (now (log .exit))
+        (now (changes .exit))) s n (freeing r n) (r .answer) (λ t. commitOf t n) ⌝ }
 {
     let go = ready(clock, log, changes, s);
     match go {
@@ -77,7 +81,11 @@ pub fn commit_in(
     seat: Seat,
     n: u64,
 ) -> Freed
-    ensures { λ r. ⌜ Serves (tables (now (clock .entry)) (now (slots .entry)) (now (words .entry)) (now (heads .entry)) (now (log .entry)) (now (changes .entry))) (tables (now (clock .exit)) (now (slots .entry)) (now (words .entry)) (now (heads .entry)) (now (log .exit)) (now (changes .exit))) [] seat n (freeing r n) (r .answer) (λ t. commitOf t n) ⌝ }
+    ensures { λ r. ⌜ Serves
+        (tables (now (clock .entry)) (now (slots .entry)) (now (words .entry)) (now (heads .entry)) (now (log .entry))
+        (now (changes .entry)))
+        (tables (now (clock .exit)) (now (slots .entry)) (now (words .entry)) (now (heads .entry)) (now (log .exit))
+        (now (changes .exit))) [] seat n (freeing r n) (r .answer) (λ t. commitOf t n) ⌝ }
 {
     let s = seat.session;
     let test = calls::opened(clock, slots, words, heads, log, changes, seat, n);

@@ -15,7 +15,8 @@ ghost use Rattle.tables.specs.Stores.{putChange};
 ghost use Rattle.tables.specs.Meaning.{targetOf, entries};
 ghost use Rattle.history.specs.Read.{standingOf, ReadReady};
 ghost use Rattle.calls.specs.Stores.{putChanges};
-ghost use Rattle.committing.specs.Commit.{toggledIn, newCells, insertCells, RowReady, RowsReady, RowsStored, InsertsReady, Recorded, CommitReady, changesMade, Committed};
+ghost use Rattle.committing.specs.Commit.{toggledIn, newCells, insertCells, RowReady, RowsReady, RowsStored, InsertsReady};
+ghost use Rattle.committing.specs.Commit.{Recorded, CommitReady, changesMade, Committed};
 
 // A flip set with what a row holds toggled, if it holds a value.
 pub fn toggled(set: u32, held: Standing) -> u32
@@ -44,8 +45,10 @@ fn new_set(
     row: Row,
     to: u8,
 ) -> u32
-    requires { ⌜ (6 ≤ length (now clock)) × ReadReady (now slots) (now words) (now heads) (now log) (now changes) (valuesIn (now clock)) (start .0) ⌝ }
-    ensures { λ r. ⌜ r ≡ newCells (now (slots .entry)) (now (words .entry)) (now (heads .entry)) (now (log .entry)) (now (changes .entry)) (valuesIn (now (clock .entry))) (start .0) (row .0) (targetOf to) ⌝ }
+    requires { ⌜ (6 ≤ length (now clock)) × ReadReady (now slots) (now words) (now heads) (now log) (now changes)
+        (valuesIn (now clock)) (start .0) ⌝ }
+    ensures { λ r. ⌜ r ≡ newCells (now (slots .entry)) (now (words .entry)) (now (heads .entry)) (now (log .entry))
+        (now (changes .entry)) (valuesIn (now (clock .entry))) (start .0) (row .0) (targetOf to) ⌝ }
 {
     let c = tables::clock_of(clock);
     let values = c.values;
@@ -67,7 +70,9 @@ fn write_row(
     p: usize,
 )
     requires { ⌜ RowReady (now clock) (now slots) (now words) (now heads) (now log) (now changes) s i p ⌝ }
-    ensures { λ _. ⌜ now (changes .exit) ≡ putChange (now (changes .entry)) p (getD (s .at) i 0) (newCells (now (slots .entry)) (now (words .entry)) (now (heads .entry)) (now (log .entry)) (now (changes .entry)) (valuesIn (now (clock .entry))) (s .start .0) (getD (s .at) i 0) (targetOf (getD (s .to) i 0))) ⌝ }
+    ensures { λ _. ⌜ now (changes .exit) ≡ putChange (now (changes .entry)) p (getD (s .at) i 0)
+        (newCells (now (slots .entry)) (now (words .entry)) (now (heads .entry)) (now (log .entry)) (now (changes .entry))
+        (valuesIn (now (clock .entry))) (s .start .0) (getD (s .at) i 0) (targetOf (getD (s .to) i 0))) ⌝ }
 {
     let row = Row(bits::long(s.at[i]));
     let start = s.start;
@@ -97,7 +102,9 @@ fn write_rows(
     from: usize,
 ) -> usize
     requires { ⌜ RowsReady (now clock) (now slots) (now words) (now heads) (now log) (now changes) s from ⌝ }
-    ensures { λ r. ⌜ RowsStored (newCells (now (slots .entry)) (now (words .entry)) (now (heads .entry)) (now (log .entry)) (now (changes .entry)) (valuesIn (now (clock .entry))) (s .start .0)) s from (now (changes .entry)) (now (changes .exit)) (s .count) r ⌝ }
+    ensures { λ r. ⌜ RowsStored
+        (newCells (now (slots .entry)) (now (words .entry)) (now (heads .entry)) (now (log .entry)) (now (changes .entry))
+        (valuesIn (now (clock .entry))) (s .start .0)) s from (now (changes .entry)) (now (changes .exit)) (s .count) r ⌝ }
 {
     let n = bits::wide(s.count);
     let mut p = from;
@@ -159,7 +166,9 @@ fn write_changes(
     s: Session,
 )
     requires { ⌜ CommitReady (now clock) (now slots) (now words) (now heads) (now log) (now changes) s ⌝ }
-    ensures { λ _. ⌜ now (changes .exit) ≡ putChanges (now (changes .entry)) (changesIn (now (clock .entry))) (changesMade (now (clock .entry)) (now (slots .entry)) (now (words .entry)) (now (heads .entry)) (now (log .entry)) (now (changes .entry)) s) ⌝ }
+    ensures { λ _. ⌜ now (changes .exit) ≡ putChanges (now (changes .entry)) (changesIn (now (clock .entry)))
+        (changesMade (now (clock .entry)) (now (slots .entry)) (now (words .entry)) (now (heads .entry)) (now (log .entry))
+        (now (changes .entry)) s) ⌝ }
 {
     let c = tables::clock_of(clock);
     let rows = c.rows;
@@ -194,7 +203,8 @@ pub fn commit_work(
     s: Session,
 ) -> Answer
     requires { ⌜ CommitReady (now clock) (now slots) (now words) (now heads) (now log) (now changes) s ⌝ }
-    ensures { λ r. ⌜ Committed (now (clock .entry)) (now (slots .entry)) (now (words .entry)) (now (heads .entry)) (now (log .entry)) (now (changes .entry)) s (now (clock .exit)) (now (log .exit)) (now (changes .exit)) r ⌝ }
+    ensures { λ r. ⌜ Committed (now (clock .entry)) (now (slots .entry)) (now (words .entry)) (now (heads .entry))
+        (now (log .entry)) (now (changes .entry)) s (now (clock .exit)) (now (log .exit)) (now (changes .exit)) r ⌝ }
 {
     let c = tables::clock_of(clock);
     let rows = c.rows;

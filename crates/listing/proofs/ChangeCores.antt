@@ -1,8 +1,8 @@
 -- Update, delete and insert on the lent tables: what each end of `change_row` and of the three cores comes to.
 -- Assumes nothing.
-use mathlib.Core.Path.{_≡_, refl, sym, ap, ap₂, _∙_}
-use mathlib.Core.Bool.{Bool, false, cond}
-use mathlib.Core.Option.{Option, some}
+use mathlib.Core.Path.{_≡_, refl, sym, _∙_}
+use mathlib.Core.Bool.{false}
+use mathlib.Core.Option.{Option}
 use mathlib.Core.List.{List, [], _∷_}
 use Prim.Native.Nat.{ℕ, _≤_, _<_}
 use native.Mathlib.Omega.{arith}
@@ -10,11 +10,10 @@ use borrow.Author.Tests.{le-leb, lt-leb}
 use lib.Dec.{leb}
 use mir.Syntax.{w8}
 use mir.Val.{Fits}
-use Rattle.rules.specs.State.{Session, Entry, session, rowsOf}
+use Rattle.rules.specs.State.{Session, session, rowsOf}
 use Rattle.rules.specs.Lists.{target, standing}
-use Rattle.rules.specs.Versions.{readAt}
 use Rattle.rules.specs.Calls.{update, delete, insert}
-use Rattle.rules.specs.Refusals.{Test, firstOf, tests, noRow, rowAbsent, listFullFor, listFull, isAbsent, standingIn}
+use Rattle.rules.specs.Refusals.{Test, tests, noRow, rowAbsent, listFullFor, listFull, standingIn}
 use Rattle.tables.specs.declared.counts.Value.{Value}
 use Rattle.tables.specs.declared.refusal.Refusal.{Refusal}
 use Rattle.tables.specs.declared.refusal.Refusal.the-variants.{NoRow, RowAbsent}
@@ -41,7 +40,6 @@ use Rattle.calls.specs.declared.enter.Test as asked
 use Rattle.calls.proofs.Entered.{bare, opened-goes, opened-shows, valued-passed, valued-goes, valued-shows}
 use Rattle.calls.proofs.Serving.{idle-relisting, idle-left, opened-refused, valued-refused}
 use Rattle.calls.proofs.OpenLaws.{open-start, open-rows, open-list, open-facts}
-use Rattle.listing.proofs.ChangeLaws.{refuses}
 
 module _ (clock slots words heads log changes : List ℕ) where
   abbrev lent : List cells.Session → Tables
@@ -52,7 +50,8 @@ module _ (clock slots words heads log changes : List ℕ) where
   module _ (x : cells.Session) (row to : ℕ) where
     -- the tests that are left, of the session that the rules see
     abbrev left : ℕ → Tables → List Test
-    left n t = noRow (session (meaning t) n) row ∷ rowAbsent (meaning t) (session (meaning t) n) row ∷ listFullFor (session (meaning t) n) row ∷ []
+    left n t = noRow (session (meaning t) n) row ∷ rowAbsent (meaning t) (session (meaning t) n) row ∷ listFullFor
+        (session (meaning t) n) row ∷ []
 
     abbrev put : ℕ → Tables → Outcome
     put n t = relisted t n (listedAt (own t n) (spotOf (own t n) row) row to)
@@ -77,43 +76,35 @@ module _ (clock slots words heads log changes : List ℕ) where
       Changes = ChangesRow lent x row to d
 
       pub change-no-row : x .rows .0 ≤ row → d ≡ relistsNone NoRow → Changes
-      unfolding changeOf
+      unfolding changeOf unless
       change-no-row l e n ts o =
           let t = lent ts in
           idle-left t [] n (relisting d n) (d .answer) (answer.No NoRow) (idle-relisting d n NoRow e)
-          ∙ sym (refuses (left n t) 7 t (put n t)
-          (ap (λ (m : ℕ). cond (leb m row) (some 7) (firstOf (rowAbsent (meaning t) (session (meaning t) n) row ∷ listFullFor (session (meaning t) n) row ∷ []))) (open-rows t n x o)
-          ∙ ap (λ (b : Bool). cond b (some 7) (firstOf (rowAbsent (meaning t) (session (meaning t) n) row ∷ listFullFor (session (meaning t) n) row ∷ []))) (le-leb (x .rows .0) row l)))
+          ∙ sym (rw (open-rows t n x o, le-leb (x .rows .0) row l))
 
       module _ (l : row < x .rows .0) (held : Standing) (h : standingOf held ≡ stands) where
         -- 7 fails
         has-row : (n : ℕ) (t : Tables) → OpenIn t n x → leb (rowsOf (session (meaning t) n)) row ≡ false
-        has-row n t o = ap (λ (m : ℕ). leb m row) (open-rows t n x o) ∙ lt-leb (x .rows .0) row l
+        has-row n t o = rw (open-rows t n x o) (lt-leb (x .rows .0) row l)
 
         -- 8 is judged alike
-        judged : (n : ℕ) (ts : List cells.Session) → OpenIn (lent ts) n x → standingIn (meaning (lent ts)) (session (meaning (lent ts)) n) row ≡ standingOf held
+        judged : (n : ℕ) (ts : List cells.Session) → OpenIn (lent ts) n x
+            → standingIn (meaning (lent ts)) (session (meaning (lent ts)) n) row ≡ standingOf held
         judged n ts o =
             let t = lent ts in
-            let st = meaning t in
-            ap₂ (λ (es : List Entry) (s : ℕ). standing (target es row) (readAt (st .values) (st .log) (st .chains) s row)) (open-list t n x o) (open-start t n x o)
-            ∙ ap (standing (target (entries x) row)) (sym (read-meets t (o .good) (x .start .0) (open-facts t n x o .start-old) row)) ∙ sym h
+            let old = open-facts t n x o .start-old in
+            rw (open-list t n x o, open-start t n x o, ← read-meets t (o .good) (x .start .0) old row, h)
 
         pub change-absent : held ≡ Absent → d ≡ relistsNone RowAbsent → Changes
-        unfolding changeOf
+        unfolding changeOf unless
         change-absent a e n ts o =
             let t = lent ts in
             idle-left t [] n (relisting d n) (d .answer) (answer.No RowAbsent) (idle-relisting d n RowAbsent e)
-            ∙ sym (refuses (left n t) 8 t (put n t)
-            (ap₂ (λ (b : Bool) (z : Option ℕ). cond b (some 7) (cond (isAbsent z) (some 8) (firstOf (listFullFor (session (meaning t) n) row ∷ [])))) (has-row n t o)
-            (judged n ts o ∙ ap standingOf a)))
+            ∙ sym (rw (has-row n t o, judged n ts o, a))
 
         pub change-on : (v : Value) → held ≡ Holds v → SettlesAny x (relisting d) (d .answer) (λ t m. targetPut t m row to) → Changes
         unfolding changeOf targetPut
-        change-on v a f n ts o =
-            let t = lent ts in
-            f n t o
-            ∙ sym (ap₂ (λ (b : Bool) (z : Option ℕ). unless (cond b (some 7) (cond (isAbsent z) (some 8) (firstOf (listFullFor (session (meaning t) n) row ∷ [])))) t [] (put n t)) (has-row n t o)
-            (judged n ts o ∙ ap standingOf a))
+        change-on v a f n ts o = f n (lent ts) o ∙ sym (rw (has-row n (lent ts) o, judged n ts o, a))
 
   -- ---- the cores: with 4, 5 and 6
 
@@ -122,14 +113,16 @@ module _ (clock slots words heads log changes : List ℕ) where
         → Serves lent lent [] x n (relisting d n) (d .answer) (λ t. updateOf t n row v)
     unfolding updateOf tests
     update-refused row why d h k =
-        valued-refused clock slots words heads log changes [] x n (update n row v) (put (x .session) row v n) test why h (relisting d n) (d .answer)
+        valued-refused clock slots words heads log changes [] x n (update n row v) (put (x .session) row v n) test why h (relisting d n)
+        (d .answer)
         (idle-relisting d n why k) (left (x .session) row v n) v (λ t. refl) q
 
     pub insert-refused : (why : Refusal) (d : Relisted) → test ≡ No why → d ≡ relistsNone why
         → Serves lent lent [] x n (relisting d n) (d .answer) (λ t. insertOf t n v)
     unfolding insertOf tests
     insert-refused why d h k =
-        valued-refused clock slots words heads log changes [] x n (insert n v) (λ t. relisted t n (listedAt (own t n) (own t n .count) 65535 v)) test why h
+        valued-refused clock slots words heads log changes [] x n (insert n v)
+        (λ t. relisted t n (listedAt (own t n) (own t n .count) 65535 v)) test why h
         (relisting d n) (d .answer) (idle-relisting d n why k)
         (λ t. listFull (session (meaning t) n) ∷ []) v (λ t. refl) q
 
@@ -142,7 +135,12 @@ module _ (clock slots words heads log changes : List ℕ) where
       pub value-byte : Fits w8 v
       value-byte =
           let p = valued-passed clock slots words heads log changes x n test h v q in
-          omega (arith, p .value-low, clock-limits clock (parts (bare clock slots words heads log changes) (p .good) .clock-fits) .few-values)
+          omega (
+            arith,
+            p .value-low,
+            clock-limits clock (parts (bare clock slots words heads log changes)
+                (p .good) .clock-fits) .few-values,
+          )
 
       valued-open : (ts : List cells.Session) → x ≡ seatOf (lent ts) n → OpenIn (lent ts) n (x .session)
       unfolding tests
@@ -159,8 +157,7 @@ module _ (clock slots words heads log changes : List ℕ) where
       update-on row d f ts e =
           let t = lent ts in
           f n ts (valued-open ts e)
-          ∙ ap (λ (w : Option ℕ). unless w t [] (put (x .session) row v n t))
-          (sym (valued-goes t n x e (update n row v) (left (x .session) row v n t) test v refl q h .rest-decides))
+          ∙ rw (valued-goes t n x e (update n row v) (left (x .session) row v n t) test v refl q h .rest-decides)
 
       pub insert-on : (d : Relisted) → SettlesAny (x .session) (relisting d) (d .answer) (λ t m. appendOf t m 65535 v)
           → Serves lent lent [] x n (relisting d n) (d .answer) (λ t. insertOf t n v)
@@ -168,8 +165,7 @@ module _ (clock slots words heads log changes : List ℕ) where
       insert-on d f ts e =
           let t = lent ts in
           f n t (valued-open ts e)
-          ∙ ap (λ (w : Option ℕ). unless w t [] (relisted t n (listedAt (own t n) (own t n .count) 65535 v)))
-          (sym (valued-goes t n x e (insert n v) (listFull (session (meaning t) n) ∷ []) test v refl q h .rest-decides))
+          ∙ rw (valued-goes t n x e (insert n v) (listFull (session (meaning t) n) ∷ []) test v refl q h .rest-decides)
 
   -- ---- with 4 and 5
 
@@ -178,7 +174,8 @@ module _ (clock slots words heads log changes : List ℕ) where
         → Serves lent lent [] x n (relisting d n) (d .answer) (λ t. deleteOf t n row)
     unfolding deleteOf tests
     delete-refused row why d h k =
-        opened-refused clock slots words heads log changes [] x n (delete n row) (put (x .session) row 255 n) test why h (relisting d n) (d .answer)
+        opened-refused clock slots words heads log changes [] x n (delete n row) (put (x .session) row 255 n) test why h (relisting d n)
+        (d .answer)
         (idle-relisting d n why k) (left (x .session) row 255 n) (λ t. refl) q
 
     module _ (h : test ≡ Passed) where
@@ -191,4 +188,4 @@ module _ (clock slots words heads log changes : List ℕ) where
           let g = opened-goes t n x e (delete n row) rest test refl q h in
           let s = opened-shows t n x e (delete n row) rest test refl q h in
           f n ts (record { room = g .room; good = g .good; place-low = s .place-low; own-there = s .own-there; live-one = s .live-one })
-          ∙ ap (λ (w : Option ℕ). unless w t [] (put (x .session) row 255 n t)) (sym (g .rest-decides))
+          ∙ rw (g .rest-decides)

@@ -32,7 +32,9 @@ fn standing(
     spot: usize,
 ) -> Standing
     requires { ⌜ Stands (now clock) (now slots) (now words) (now heads) (now log) (now changes) s (row .0) spot ⌝ }
-    ensures { λ r. ⌜ standingOf r ≡ rules.standing (rules.target (entries s) (row .0)) (readCells (now (slots .entry)) (now (words .entry)) (now (heads .entry)) (now (log .entry)) (now (changes .entry)) (valuesIn (now (clock .entry))) (s .start .0) (row .0)) ⌝ }
+    ensures { λ r. ⌜ standingOf r ≡ rules.standing (rules.target (entries s) (row .0))
+        (readCells (now (slots .entry)) (now (words .entry)) (now (heads .entry)) (now (log .entry)) (now (changes .entry))
+        (valuesIn (now (clock .entry))) (s .start .0) (row .0)) ⌝ }
 {
     if spot < bits::wide(s.count) {
         return calls::target_of(s.to[spot]);
@@ -80,7 +82,9 @@ fn change_row(
     to: u8,
 ) -> Relisted
     requires { ⌜ Usable (now clock) (now slots) (now words) (now heads) (now log) (now changes) s ⌝ }
-    ensures { λ r. ⌜ ChangesRow (tables (now (clock .entry)) (now (slots .entry)) (now (words .entry)) (now (heads .entry)) (now (log .entry)) (now (changes .entry))) s (row .0) to r ⌝ }
+    ensures { λ r. ⌜ ChangesRow
+        (tables (now (clock .entry)) (now (slots .entry)) (now (words .entry)) (now (heads .entry)) (now (log .entry))
+        (now (changes .entry))) s (row .0) to r ⌝ }
 {
     let rows = s.rows;
     if rows.0 <= row.0 {
@@ -107,7 +111,11 @@ pub fn update_in(
     row: Row,
     v: Value,
 ) -> Relisted
-    ensures { λ r. ⌜ Serves (tables (now (clock .entry)) (now (slots .entry)) (now (words .entry)) (now (heads .entry)) (now (log .entry)) (now (changes .entry))) (tables (now (clock .entry)) (now (slots .entry)) (now (words .entry)) (now (heads .entry)) (now (log .entry)) (now (changes .entry))) [] seat n (relisting r n) (r .answer) (λ t. updateOf t n (row .0) (v .0)) ⌝ }
+    ensures { λ r. ⌜ Serves
+        (tables (now (clock .entry)) (now (slots .entry)) (now (words .entry)) (now (heads .entry)) (now (log .entry))
+        (now (changes .entry)))
+        (tables (now (clock .entry)) (now (slots .entry)) (now (words .entry)) (now (heads .entry)) (now (log .entry))
+        (now (changes .entry))) [] seat n (relisting r n) (r .answer) (λ t. updateOf t n (row .0) (v .0)) ⌝ }
 {
     let s = seat.session;
     let test = calls::valued(clock, slots, words, heads, log, changes, seat, n, v);
@@ -129,7 +137,11 @@ pub fn delete_in(
     n: u64,
     row: Row,
 ) -> Relisted
-    ensures { λ r. ⌜ Serves (tables (now (clock .entry)) (now (slots .entry)) (now (words .entry)) (now (heads .entry)) (now (log .entry)) (now (changes .entry))) (tables (now (clock .entry)) (now (slots .entry)) (now (words .entry)) (now (heads .entry)) (now (log .entry)) (now (changes .entry))) [] seat n (relisting r n) (r .answer) (λ t. deleteOf t n (row .0)) ⌝ }
+    ensures { λ r. ⌜ Serves
+        (tables (now (clock .entry)) (now (slots .entry)) (now (words .entry)) (now (heads .entry)) (now (log .entry))
+        (now (changes .entry)))
+        (tables (now (clock .entry)) (now (slots .entry)) (now (words .entry)) (now (heads .entry)) (now (log .entry))
+        (now (changes .entry))) [] seat n (relisting r n) (r .answer) (λ t. deleteOf t n (row .0)) ⌝ }
 {
     let s = seat.session;
     let test = calls::opened(clock, slots, words, heads, log, changes, seat, n);
@@ -151,7 +163,11 @@ pub fn insert_in(
     n: u64,
     v: Value,
 ) -> Relisted
-    ensures { λ r. ⌜ Serves (tables (now (clock .entry)) (now (slots .entry)) (now (words .entry)) (now (heads .entry)) (now (log .entry)) (now (changes .entry))) (tables (now (clock .entry)) (now (slots .entry)) (now (words .entry)) (now (heads .entry)) (now (log .entry)) (now (changes .entry))) [] seat n (relisting r n) (r .answer) (λ t. insertOf t n (v .0)) ⌝ }
+    ensures { λ r. ⌜ Serves
+        (tables (now (clock .entry)) (now (slots .entry)) (now (words .entry)) (now (heads .entry)) (now (log .entry))
+        (now (changes .entry)))
+        (tables (now (clock .entry)) (now (slots .entry)) (now (words .entry)) (now (heads .entry)) (now (log .entry))
+        (now (changes .entry))) [] seat n (relisting r n) (r .answer) (λ t. insertOf t n (v .0)) ⌝ }
 {
     let s = seat.session;
     let test = calls::valued(clock, slots, words, heads, log, changes, seat, n, v);

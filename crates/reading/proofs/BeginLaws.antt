@@ -1,7 +1,6 @@
 -- Begin and abort: what each of their ends comes to.
 -- Assumes nothing.
 use mathlib.Core.Path.{_≡_, refl, sym, ap, _∙_}
-use mathlib.Core.Bool.{Bool, cond}
 use mathlib.Core.List.{List, [], _∷_}
 use Prim.Native.Nat.{ℕ, _≤_}
 use borrow.Author.Tests.{eq-eqb, ne-eqb}
@@ -11,9 +10,9 @@ use Rattle.rules.specs.Refusals.{tests}
 use Rattle.tables.specs.declared.clock.Clock.{Clock}
 use Rattle.tables.specs.declared.session.Session.{Session}
 use Rattle.tables.specs.declared.refusal.Refusal.{Refusal}
-use Rattle.tables.specs.Cells.{Tables, tables, stampIn, rowsIn}
+use Rattle.tables.specs.Cells.{Tables, tables}
 use Rattle.tables.specs.Clock.{clockIn}
-use Rattle.tables.specs.Sessions.{freed, begun}
+use Rattle.tables.specs.Sessions.{freed}
 use Rattle.tables.proofs.Facts.{room-facts}
 use Rattle.lent.specs.declared.seats.Seat.{Seat}
 use Rattle.calls.specs.declared.answers.Begun.{Begun}
@@ -28,7 +27,8 @@ use Rattle.calls.specs.Calls.{own, reseated, beginning, beginOf, abortOf}
 use Rattle.calls.specs.Seats.{seatOf, opens, opensNone, frees, freesNone, opening, freeing, Serves}
 use Rattle.calls.specs.Enter.{whyOf, placedBy, openedBy}
 use Rattle.calls.proofs.Entered.{bare, placed-passed, placed-goes, opened-goes, opened-passed, own-seat}
-use Rattle.calls.proofs.Serving.{idle-opening, idle-freeing, idle-left, opened-left, freed-left, accepted-outcome, placed-refused, opened-refused}
+use Rattle.calls.proofs.Serving.{idle-opening, idle-freeing, idle-left, opened-left, freed-left, accepted-outcome, placed-refused}
+use Rattle.calls.proofs.Serving.{opened-refused}
 
 module _ (clock slots words heads log changes : List ℕ) (x : Seat) (n : ℕ) (test : asked.Test) where
   abbrev lent : List Session → Tables
@@ -43,13 +43,15 @@ module _ (clock slots words heads log changes : List ℕ) (x : Seat) (n : ℕ) (
     pub begin-refused : (why : Refusal) (d : Begun) → test ≡ No why → d ≡ opensNone (answer.No why) → Begins d
     unfolding beginOf tests
     begin-refused why d h k =
-        placed-refused clock slots words heads log changes [] x n (begin n) (λ t. beginning t n (own t n)) test why h (opening d n) (d .answer)
+        placed-refused clock slots words heads log changes [] x n (begin n) (λ t. beginning t n (own t n)) test why h (opening d n)
+        (d .answer)
         (idle-opening d n (answer.No why) k) (λ t. []) (λ t. refl) q
 
     module _ (h : test ≡ Passed) where
       pub begin-clock : 6 ≤ length clock
       begin-clock =
-          room-facts (bare clock slots words heads log changes) (placed-passed clock slots words heads log changes x n test h q .room) .clock-room
+          room-facts (bare clock slots words heads log changes)
+          (placed-passed clock slots words heads log changes x n test h q .room) .clock-room
 
       -- an accepted begin, of the session that the seat has
       accepted : (ts : List Session) → x ≡ seatOf (lent ts) n → beginOf (lent ts) n ≡ beginning (lent ts) n (x .session)
@@ -59,27 +61,18 @@ module _ (clock slots words heads log changes : List ℕ) (x : Seat) (n : ℕ) (
           accepted-outcome t [] (begin n) (beginning t n (own t n)) (placed-goes t n x e (begin n) [] test refl q h .rest-decides)
           ∙ ap (beginning t n) (sym (own-seat t n x e))
 
-      -- what it leaves of an open session, and of a free one
-      abbrev again : Tables → Outcome
-      again t = outcome t [] (numbers (x .session .start .0 ∷ x .session .rows .0 ∷ []))
-
-      abbrev new : Tables → Outcome
-      new t = outcome (reseated t n (begun (clockIn clock .stamp) (clockIn clock .rows))) [] (numbers (stampIn clock ∷ rowsIn clock ∷ []))
-
       pub begin-again : (d : Begun) → x .session .live ≡ 1 → d ≡ opensNone (At (x .session .start) (x .session .rows)) → Begins d
       unfolding beginning
       begin-again d l k ts e =
-          let t = lent ts in
-          idle-left t [] n (opening d n) (d .answer) (At (x .session .start) (x .session .rows)) (idle-opening d n (At (x .session .start) (x .session .rows)) k)
-          ∙ ap (λ (b : Bool). cond b (again t) (new t)) (sym (eq-eqb (x .session .live) 1 l)) ∙ sym (accepted ts e)
+          idle-left (lent ts) [] n (opening d n) (d .answer) _ (idle-opening d n _ k)
+          ∙ sym (accepted ts e ∙ rw (eq-eqb (x .session .live) 1 l))
 
       pub begin-new : (c : Clock) (d : Begun) → (x .session .live ≡ 1 → ⊥) → c ≡ clockIn clock → d ≡ opens (c .stamp) (c .rows) → Begins d
       unfolding beginning clockIn
       begin-new c d l p k ts e =
           let t = lent ts in
           opened-left t [] n d (c .stamp) (c .rows) (placed-passed clock slots words heads log changes x n test h q .place-low) k
-          ∙ ap (λ (z : Clock). outcome (reseated t n (begun (z .stamp) (z .rows))) [] (numbers (z .stamp .0 ∷ z .rows .0 ∷ []))) p
-          ∙ ap (λ (b : Bool). cond b (again t) (new t)) (sym (ne-eqb (x .session .live) 1 l)) ∙ sym (accepted ts e)
+          ∙ sym (accepted ts e ∙ rw (ne-eqb (x .session .live) 1 l, p))
 
   -- ---- abort
 
@@ -93,7 +86,8 @@ module _ (clock slots words heads log changes : List ℕ) (x : Seat) (n : ℕ) (
     pub abort-refused : (why : Refusal) (d : Freed) → test ≡ No why → d ≡ freesNone why → Aborts d
     unfolding abortOf tests
     abort-refused why d h k =
-        opened-refused clock slots words heads log changes [] x n (abort n) dropped test why h (freeing d n) (d .answer) (idle-freeing d n why k)
+        opened-refused clock slots words heads log changes [] x n (abort n) dropped test why h (freeing d n) (d .answer)
+        (idle-freeing d n why k)
         (λ t. []) (λ t. refl) q
 
     pub abort-frees : (d : Freed) → test ≡ Passed → d ≡ frees (Count (x .session .count)) → Aborts d
@@ -101,5 +95,5 @@ module _ (clock slots words heads log changes : List ℕ) (x : Seat) (n : ℕ) (
     abort-frees d h k ts e =
         let t = lent ts in
         freed-left t [] n d (Count (x .session .count)) (opened-passed clock slots words heads log changes x n test h q .place-low) k
-        ∙ ap (λ (y : Session). outcome (reseated t n freed) [] (numbers (y .count ∷ []))) (own-seat t n x e)
-        ∙ sym (accepted-outcome t [] (abort n) (dropped t) (opened-goes t n x e (abort n) [] test refl q h .rest-decides))
+        ∙ rw (own-seat t n x e) (sym (accepted-outcome t [] (abort n) (dropped t)
+        (opened-goes t n x e (abort n) [] test refl q h .rest-decides)))

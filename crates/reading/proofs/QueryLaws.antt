@@ -1,8 +1,7 @@
 -- Query: what each of its ends comes to.
 -- Assumes nothing.
-use mathlib.Core.Path.{_≡_, refl, sym, ap, ap₂, _∙_}
-use mathlib.Core.Bool.{Bool, false, cond}
-use mathlib.Core.Option.{none, some}
+use mathlib.Core.Path.{_≡_, refl, sym, ap, _∙_}
+use mathlib.Core.Bool.{false, cond}
 use mathlib.Core.List.{List, [], _∷_}
 use Prim.Native.Nat.{ℕ, _≤_, _<_}
 use borrow.Author.Tests.{eq-eqb, ne-eqb, lt-ltb, le-ltb}
@@ -20,7 +19,7 @@ use Rattle.tables.specs.declared.refusal.Refusal.the-variants.{ShortScratch}
 use Rattle.tables.specs.Cells.{Tables, tables}
 use Rattle.tables.specs.Meaning.{meaning}
 use Rattle.history.specs.declared.query.Found.{Found}
-use Rattle.history.specs.Version.{slotSeen, baseSeen}
+use Rattle.history.specs.Version.{baseSeen}
 use Rattle.history.specs.Query.{frontFilled, foundAt, scratchAt, Ready}
 use Rattle.history.proofs.Ready.{ready}
 use Rattle.history.proofs.Meets.{count-meets, scratch-meets}
@@ -30,8 +29,7 @@ use Rattle.calls.specs.declared.answers.Answer.{Answer}
 use Rattle.calls.specs.declared.answers.Answer.the-variants as answer
 use Rattle.calls.specs.declared.enter.Test as asked
 use Rattle.calls.specs.declared.enter.Test.the-variants.{Passed, No}
-use Rattle.calls.specs.Said as says
-use Rattle.calls.specs.Outcome.{Outcome, outcome}
+use Rattle.calls.specs.Outcome.{Outcome}
 use Rattle.calls.specs.Query.{rowsSeen, flipsSeen, queryOf}
 use Rattle.calls.specs.Query as query
 use Rattle.calls.specs.Seats.{seatOf, untouched, Serves}
@@ -55,7 +53,8 @@ module _ (clock slots words heads log changes scratch : List ℕ) (x : Seat) (n 
   pub query-refused : (why : Refusal) → test ≡ No why → Answers scratch (answer.No why)
   unfolding queryOf tests
   query-refused why h =
-      valued-refused clock slots words heads log changes (scratch ∷ []) x n (query n v threshold (length scratch)) done test why h untouched (answer.No why)
+      valued-refused clock slots words heads log changes (scratch ∷ []) x n (query n v threshold (length scratch)) done test why h untouched
+      (answer.No why)
       (idle _ _ refl) (λ t. shortScratch (length scratch) ∷ []) v (λ t. refl) q
 
   module _ (h : test ≡ Passed) where
@@ -64,7 +63,8 @@ module _ (clock slots words heads log changes scratch : List ℕ) (x : Seat) (n 
 
     pub query-ready : 32 ≤ length scratch → Ready slots words heads log changes scratch (x .session .start .0) v
     query-ready l =
-        ready (bare clock slots words heads log changes) (passed .room) (passed .good) (x .session .start .0) (passed .start-old) v (passed .value-low) scratch l
+        ready (bare clock slots words heads log changes) (passed .room) (passed .good) (x .session .start .0) (passed .start-old) v
+        (passed .value-low) scratch l
 
     module _ (ts : List Session) (e : x ≡ seatOf (lent ts) n) where
       went : Goes (lent ts) (query n v threshold (length scratch)) (shortScratch (length scratch) ∷ [])
@@ -80,7 +80,7 @@ module _ (clock slots words heads log changes scratch : List ℕ) (x : Seat) (n 
     query-short l ts e =
         let t = lent ts in
         refused-outcome t (scratch ∷ []) (query n v threshold (length scratch)) (done t) ShortScratch untouched (answer.No ShortScratch)
-        (went ts e .rest-decides ∙ ap (λ (b : Bool). cond b (some 10) none) (lt-ltb (length scratch) 32 l)) (idle _ _ refl)
+        (went ts e .rest-decides ∙ rw (lt-ltb (length scratch) 32 l)) (idle _ _ refl)
 
     module _ (l : 32 ≤ length scratch) (f : Found) (p : f ≡ foundAt slots heads log changes (x .session .start .0) v) (after : List ℕ)
         (w : after ≡ scratchAt slots words heads log changes scratch (x .session .start .0) v) where
@@ -93,12 +93,12 @@ module _ (clock slots words heads log changes scratch : List ℕ) (x : Seat) (n 
         accepted =
             let t = lent ts in
             accepted-outcome t (scratch ∷ []) (query n v threshold (length scratch)) (done t)
-            (went ts e .rest-decides ∙ ap (λ (b : Bool). cond b (some 10) none) (le-ltb (length scratch) 32 l))
-            ∙ ap (λ (s : ℕ). query.asked t scratch s v threshold) (shown ts e .start-means)
+            (went ts e .rest-decides ∙ rw (le-ltb (length scratch) 32 l)) ∙ rw (shown ts e .start-means)
 
         flips-are : f .flips ≡ flipsSeen (lent ts) start v
         flips-are =
-            ap (λ (g : Found). g .flips) p ∙ count-meets (lent ts) (went ts e .good) start (shown ts e .facts .start-old) v (passed .value-low)
+            ap (λ (g : Found). g .flips) p ∙ count-meets (lent ts) (went ts e .good) start (shown ts e .facts .start-old) v
+            (passed .value-low)
 
         scratch-is : after ≡ cond (eqb (flipsSeen (lent ts) start v) 0) scratch (over (vec (rowsSeen (lent ts) start v) 32) scratch)
         unfolding frontFilled
@@ -108,23 +108,12 @@ module _ (clock slots words heads log changes scratch : List ℕ) (x : Seat) (n 
       pub query-own : f .flips ≡ 0 → Answers after (answer.Listed 0 false (Slot (f .slot)))
       unfolding foundAt baseSeen query.asked
       query-own z ts e =
-          let t = lent ts in
-          let none-flipped = eq-eqb (flipsSeen t start v) 0 (sym (flips-are ts e) ∙ z) in
-          ap₂ (λ (ws : List ℕ) (i : ℕ). outcome t (ws ∷ []) (says.words 0 false (some i)))
-          (scratch-is ts e ∙ ap (λ (b : Bool). cond b scratch (over (vec (rowsSeen t start v) 32) scratch)) none-flipped)
-          (ap (λ (g : Found). g .slot) p)
-          ∙ ap (λ (b : Bool). cond b (outcome t (scratch ∷ []) (says.words 0 false (some (slotSeen slots heads start v))))
-          (outcome t (over (vec (rowsSeen t start v) 32) scratch ∷ []) (says.words (flipsSeen t start v) (ltb threshold (flipsSeen t start v)) none))) (sym none-flipped)
-          ∙ sym (accepted ts e)
+          let none-flipped = eq-eqb (flipsSeen (lent ts) start v) 0 (sym (flips-are ts e) ∙ z) in
+          rw (accepted ts e, scratch-is ts e, none-flipped, p)
 
       -- some are: the scratch's
       pub query-copied : (f .flips ≡ 0 → ⊥) → Answers after (answer.Listed (f .flips) (ltb threshold (f .flips)) Scratch)
       unfolding query.asked
       query-copied z ts e =
-          let t = lent ts in
-          let some-flipped = ne-eqb (flipsSeen t start v) 0 (λ y. z (flips-are ts e ∙ y)) in
-          ap₂ (λ (ws : List ℕ) (m : ℕ). outcome t (ws ∷ []) (says.words m (ltb threshold m) none))
-          (scratch-is ts e ∙ ap (λ (b : Bool). cond b scratch (over (vec (rowsSeen t start v) 32) scratch)) some-flipped) (flips-are ts e)
-          ∙ ap (λ (b : Bool). cond b (outcome t (scratch ∷ []) (says.words 0 false (some (slotSeen slots heads start v))))
-          (outcome t (over (vec (rowsSeen t start v) 32) scratch ∷ []) (says.words (flipsSeen t start v) (ltb threshold (flipsSeen t start v)) none))) (sym some-flipped)
-          ∙ sym (accepted ts e)
+          let some-flipped = ne-eqb (flipsSeen (lent ts) start v) 0 (λ y. z (flips-are ts e ∙ y)) in
+          rw (accepted ts e, scratch-is ts e, flips-are ts e, some-flipped)

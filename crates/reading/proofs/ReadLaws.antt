@@ -1,15 +1,14 @@
 -- Read: what each of its ends comes to.
 -- Assumes nothing.
-use mathlib.Core.Path.{_≡_, refl, sym, ap, subst, _∙_}
-use mathlib.Core.Bool.{Bool, cond}
-use mathlib.Core.Option.{Option, none, some}
+use mathlib.Core.Path.{_≡_, refl, sym, _∙_}
+use mathlib.Core.Bool.{cond}
+use mathlib.Core.Option.{none, some}
 use mathlib.Core.List.{List, [], _∷_}
 use Prim.Native.Nat.{ℕ, _≤_, _<_}
 use borrow.Author.Tests.{le-leb, lt-leb}
 use lib.Dec.{leb}
 use lib.ListN.{length}
 use Rattle.rules.specs.State.{session}
-use Rattle.rules.specs.Versions.{readAt}
 use Rattle.rules.specs.Calls.{read}
 use Rattle.rules.specs.Refusals.{tests, noRow, readIn}
 use Rattle.tables.specs.declared.clock.Clock.{Clock}
@@ -37,7 +36,8 @@ use Rattle.calls.specs.Enter.{whyOf, openedBy}
 use Rattle.calls.proofs.Entered.{bare, Goes, Shows, Opened, opened-passed, opened-goes, opened-shows}
 use Rattle.calls.proofs.Serving.{idle, refused-outcome, accepted-outcome, opened-refused}
 
-module _ (clock slots words heads log changes : List ℕ) (x : Seat) (n row : ℕ) (test : asked.Test) (q : whyOf test ≡ openedBy clock slots words heads log changes x n) where
+module _ (clock slots words heads log changes : List ℕ) (x : Seat) (n row : ℕ) (test : asked.Test)
+    (q : whyOf test ≡ openedBy clock slots words heads log changes x n) where
   abbrev lent : List Session → Tables
   lent = tables clock slots words heads log changes
 
@@ -63,8 +63,8 @@ module _ (clock slots words heads log changes : List ℕ) (x : Seat) (n row : �
     pub read-readies : (c : Clock) → c ≡ clockIn clock → ReadReady slots words heads log changes (c .values .0) (x .session .start .0)
     unfolding clockIn
     read-readies c k =
-        subst (λ (z : Clock). ReadReady slots words heads log changes (z .values .0) (x .session .start .0)) (sym k)
-        (read-ready (bare clock slots words heads log changes) (passed .room) (passed .good) (x .session .start .0) (passed .start-old))
+        rw k (read-ready (bare clock slots words heads log changes) (passed .room) (passed .good) (x .session .start .0)
+        (passed .start-old))
 
     module _ (ts : List Session) (e : x ≡ seatOf (lent ts) n) where
       went : Goes (lent ts) (read n row) (noRow (session (meaning (lent ts)) n) row ∷ [])
@@ -77,13 +77,13 @@ module _ (clock slots words heads log changes : List ℕ) (x : Seat) (n row : �
 
       -- 7, of the session that the seat has
       row-decides : refusalAt (lent ts) (read n row) ≡ cond (leb (x .session .rows .0) row) (some 7) none
-      row-decides = went .rest-decides ∙ ap (λ (m : ℕ). cond (leb m row) (some 7) none) (shown .rows-mean)
+      row-decides = went .rest-decides ∙ rw (shown .rows-mean)
 
     pub read-no-row : x .session .rows .0 ≤ row → Reads (answer.No NoRow)
     unfolding readOf
     read-no-row l ts e =
         refused-outcome (lent ts) [] (read n row) (seen (lent ts)) NoRow untouched (answer.No NoRow)
-        (row-decides ts e ∙ ap (λ (b : Bool). cond b (some 7) none) (le-leb (x .session .rows .0) row l)) (idle _ _ refl)
+        (row-decides ts e ∙ rw (le-leb (x .session .rows .0) row l)) (idle _ _ refl)
 
     pub read-reads : (c : Clock) (r : Standing) → row < x .session .rows .0 → c ≡ clockIn clock
         → standingOf r ≡ readCells slots words heads log changes (c .values .0) (x .session .start .0) row → Reads (answer.Read r)
@@ -91,10 +91,5 @@ module _ (clock slots words heads log changes : List ℕ) (x : Seat) (n row : �
     read-reads c r l p z ts e =
         let t = lent ts in
         let s = shown ts e in
-        ap (λ (o : Option ℕ). outcome t [] (value o))
-        (z ∙ ap (λ (y : Clock). readCells slots words heads log changes (y .values .0) (x .session .start .0) row) p
-        ∙ read-meets t (went ts e .good) (x .session .start .0) (s .facts .start-old) row
-        ∙ ap (λ (m : ℕ). readAt (meaning t .values) (meaning t .log) (meaning t .chains) m row) (sym (s .start-means)))
-        ∙ sym
-        (accepted-outcome t [] (read n row) (seen t)
-        (row-decides ts e ∙ ap (λ (b : Bool). cond b (some 7) none) (lt-leb (x .session .rows .0) row l)))
+        rw (z, p, read-meets t (went ts e .good) (x .session .start .0) (s .facts .start-old) row, ← s .start-means)
+        (sym (accepted-outcome t [] (read n row) (seen t) (row-decides ts e ∙ rw (lt-leb (x .session .rows .0) row l))))

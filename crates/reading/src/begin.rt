@@ -20,7 +20,11 @@ pub fn begin_in(
     seat: Seat,
     n: u64,
 ) -> Begun
-    ensures { λ r. ⌜ Serves (tables (now (clock .entry)) (now (slots .entry)) (now (words .entry)) (now (heads .entry)) (now (log .entry)) (now (changes .entry))) (tables (now (clock .entry)) (now (slots .entry)) (now (words .entry)) (now (heads .entry)) (now (log .entry)) (now (changes .entry))) [] seat n (opening r n) (r .answer) (λ t. beginOf t n) ⌝ }
+    ensures { λ r. ⌜ Serves
+        (tables (now (clock .entry)) (now (slots .entry)) (now (words .entry)) (now (heads .entry)) (now (log .entry))
+        (now (changes .entry)))
+        (tables (now (clock .entry)) (now (slots .entry)) (now (words .entry)) (now (heads .entry)) (now (log .entry))
+        (now (changes .entry))) [] seat n (opening r n) (r .answer) (λ t. beginOf t n) ⌝ }
 {
     let test = calls::placed(
         clock,
@@ -61,7 +65,11 @@ pub fn abort_in(
     seat: Seat,
     n: u64,
 ) -> Freed
-    ensures { λ r. ⌜ Serves (tables (now (clock .entry)) (now (slots .entry)) (now (words .entry)) (now (heads .entry)) (now (log .entry)) (now (changes .entry))) (tables (now (clock .entry)) (now (slots .entry)) (now (words .entry)) (now (heads .entry)) (now (log .entry)) (now (changes .entry))) [] seat n (freeing r n) (r .answer) (λ t. abortOf t n) ⌝ }
+    ensures { λ r. ⌜ Serves
+        (tables (now (clock .entry)) (now (slots .entry)) (now (words .entry)) (now (heads .entry)) (now (log .entry))
+        (now (changes .entry)))
+        (tables (now (clock .entry)) (now (slots .entry)) (now (words .entry)) (now (heads .entry)) (now (log .entry))
+        (now (changes .entry))) [] seat n (freeing r n) (r .answer) (λ t. abortOf t n) ⌝ }
 {
     let count = seat.session.count;
     let test = calls::opened(clock, slots, words, heads, log, changes, seat, n);

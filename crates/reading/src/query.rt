@@ -28,7 +28,12 @@ pub fn query_in(
     v: Value,
     threshold: u64,
 ) -> Answer
-    ensures { λ r. ⌜ Serves (tables (now (clock .entry)) (now (slots .entry)) (now (words .entry)) (now (heads .entry)) (now (log .entry)) (now (changes .entry))) (tables (now (clock .entry)) (now (slots .entry)) (now (words .entry)) (now (heads .entry)) (now (log .entry)) (now (changes .entry))) (now (scratch .exit) ∷ []) seat n untouched r (λ t. queryOf t (now (scratch .entry)) n (v .0) threshold) ⌝ }
+    ensures { λ r. ⌜ Serves
+        (tables (now (clock .entry)) (now (slots .entry)) (now (words .entry)) (now (heads .entry)) (now (log .entry))
+        (now (changes .entry)))
+        (tables (now (clock .entry)) (now (slots .entry)) (now (words .entry)) (now (heads .entry)) (now (log .entry))
+        (now (changes .entry))) (now (scratch .exit) ∷ []) seat n untouched r
+        (λ t. queryOf t (now (scratch .entry)) n (v .0) threshold) ⌝ }
 {
     let s = seat.session;
     let start = s.start;
@@ -86,7 +91,11 @@ pub fn read_in(
     n: u64,
     row: Row,
 ) -> Answer
-    ensures { λ r. ⌜ Serves (tables (now (clock .entry)) (now (slots .entry)) (now (words .entry)) (now (heads .entry)) (now (log .entry)) (now (changes .entry))) (tables (now (clock .entry)) (now (slots .entry)) (now (words .entry)) (now (heads .entry)) (now (log .entry)) (now (changes .entry))) [] seat n untouched r (λ t. readOf t n (row .0)) ⌝ }
+    ensures { λ r. ⌜ Serves
+        (tables (now (clock .entry)) (now (slots .entry)) (now (words .entry)) (now (heads .entry)) (now (log .entry))
+        (now (changes .entry)))
+        (tables (now (clock .entry)) (now (slots .entry)) (now (words .entry)) (now (heads .entry)) (now (log .entry))
+        (now (changes .entry))) [] seat n untouched r (λ t. readOf t n (row .0)) ⌝ }
 {
     let s = seat.session;
     let start = s.start;

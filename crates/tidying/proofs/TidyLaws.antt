@@ -9,15 +9,15 @@ use borrow.Author.Tests.{leb-false, ltb-false}
 use lib.ListN.{length, set}
 use Rattle.bits.specs.Rows.{countOf, rowsOf}
 use Rattle.bits.specs.Vec.{vec}
-use Rattle.rules.specs.State.{session, startOf}
+use Rattle.rules.specs.State.{session}
 use Rattle.rules.specs.Tidy.{moved}
 use Rattle.rules.specs.Calls.{tidy}
-use Rattle.rules.specs.Refusals.{Test, firstOf, nothingToMove, isStale, recordsFull, changesFull, slotsFull, tests}
+use Rattle.rules.specs.Refusals.{Test, firstOf, tests}
 use Rattle.rules.proofs.Tests.{all-fail}
 use Rattle.tables.specs.declared.clock.Clock.{Clock}
 use Rattle.tables.specs.declared.session.Session.{Session}
 use Rattle.tables.specs.declared.refusal.Refusal.{Refusal}
-use Rattle.tables.specs.Cells.{Tables, tables, stampIn, rowsIn, slotsIn, changesIn, endAt}
+use Rattle.tables.specs.Cells.{Tables, tables, stampIn, slotsIn, changesIn, endAt}
 use Rattle.tables.specs.Clock.{clockIn, later}
 use Rattle.tables.specs.Meaning.{meaning}
 use Rattle.tables.specs.Stores.{putRecord, putMoment, putSlotsUsed, putChangesUsed}
@@ -37,62 +37,52 @@ use Rattle.calls.specs.Calls.{own, tidyStores, tidyOf}
 use Rattle.calls.specs.Seats.{untouched, Serves}
 use Rattle.calls.specs.Enter.{whyOf, valuedBy}
 use Rattle.tidying.specs.declared.tidy.Plan.{Plan}
-use Rattle.tidying.specs.Tidy.{Datable, tidyTests, RowsPut, Puttable, Fillable, VersionPut, Tidyable, TidyReady, Plannable, planOf, movedIn, tidyClock, tidyLog, tidiedCells, Tidied, tidyCells, Tidies}
+use Rattle.tidying.specs.Tidy.{tidyTests, RowsPut, Puttable, Fillable, VersionPut, Tidyable, TidyReady, Plannable, planOf}
+use Rattle.tidying.specs.Tidy.{movedIn, tidyClock, tidyLog, tidiedCells, Tidied, tidyCells, Tidies}
 use Rattle.calls.proofs.Entered.{bare, Valued, valued-passed, valued-goes, valued-shows}
 use Rattle.calls.proofs.Serving.{idle, valued-refused}
-use Rattle.tidying.proofs.TidyMeets.{tests-meet, cells-meet}
+use Rattle.tidying.proofs.TidyMeets.{restTests, tests-meet, cells-meet}
 
 -- ---- the record and the clock
 
-pub counts-written : (clock c₁ c₂ c₃ : List ℕ) (stamp rows slots changes : ℕ) → c₁ ≡ putMoment clock stamp rows → c₂ ≡ putSlotsUsed c₁ slots → c₃ ≡ putChangesUsed c₂ changes
+pub counts-written : (clock c₁ c₂ c₃ : List ℕ) (stamp rows slots changes : ℕ) → c₁ ≡ putMoment clock stamp rows → c₂ ≡ putSlotsUsed c₁ slots
+    → c₃ ≡ putChangesUsed c₂ changes
     → c₃ ≡ set (set (set (set clock 2 stamp) 3 rows) 4 slots) 5 changes
 unfolding putMoment putSlotsUsed putChangesUsed
 counts-written clock c₁ c₂ c₃ stamp rows slots changes a b c =
-    c ∙ ap (λ (l : List ℕ). set l 5 changes) (b ∙ ap (λ (l : List ℕ). set l 4 slots) a)
+    rw (c, b, a)
 
 module _ (clock : List ℕ) (c : Clock) (e : c ≡ clockIn clock) where
-  stamp-is : c .stamp .0 ≡ stampIn clock
-  unfolding clockIn
-  stamp-is = ap (λ (x : Clock). x .stamp .0) e
-
   pub stamp-low : stampIn clock < 512 → c .stamp .0 < 512
-  stamp-low h = omega (arith, stamp-is)
+  unfolding clockIn
+  stamp-low h = rw e h
 
   pub stamp-fits : stampIn clock < 512 → c .stamp .0 < 4294967295
-  stamp-fits h = omega (arith, stamp-is)
+  unfolding clockIn
+  stamp-fits h = rw e (omega arith)
 
-  module _ (moved used slots : ℕ) (u : used ≡ changesIn clock) (s : slots ≡ slotsIn clock) where
-    module _ (next : Clock) (n : next ≡ later (clockIn clock) (clockIn clock .rows)) where
-      next-stamp : next .stamp .0 ≡ stampIn clock + 1
-      unfolding later clockIn
-      next-stamp = ap (λ (x : Clock). x .stamp .0) n
+  module _ (moved used slots : ℕ) (u : used ≡ changesIn clock) (s : slots ≡ slotsIn clock) (next : Clock)
+      (n : next ≡ later (clockIn clock) (clockIn clock .rows)) where
+    pub log-tidied : (log log′ : List ℕ) → log′ ≡ putRecord log (c .stamp .0) 2 (next .rows .0) (used + moved)
+        → log′ ≡ tidyLog clock log moved
+    unfolding later clockIn
+    log-tidied log log′ q = rw (q, e, n, u)
 
-      next-rows : next .rows .0 ≡ rowsIn clock
-      unfolding later clockIn
-      next-rows = ap (λ (x : Clock). x .rows .0) n
+    pub clock-tidied : (clock′ : List ℕ)
+        → clock′ ≡ set (set (set (set clock 2 (next .stamp .0)) 3 (next .rows .0)) 4 (slots + 1)) 5 (used + moved)
+        → clock′ ≡ tidyClock clock moved
+    unfolding later clockIn
+    clock-tidied clock′ q = rw (q, n, s, u)
 
-      pub log-tidied : (log log′ : List ℕ) → log′ ≡ putRecord log (c .stamp .0) 2 (next .rows .0) (used + moved) → log′ ≡ tidyLog clock log moved
-      log-tidied log log′ q =
-          q ∙ ap₂ (λ (k m : ℕ). putRecord log k 2 m (used + moved)) stamp-is next-rows
-          ∙ ap (λ (m : ℕ). putRecord log (stampIn clock) 2 (rowsIn clock) (m + moved)) u
-
-      pub clock-tidied : (clock′ : List ℕ) → clock′ ≡ set (set (set (set clock 2 (next .stamp .0)) 3 (next .rows .0)) 4 (slots + 1)) 5 (used + moved)
-          → clock′ ≡ tidyClock clock moved
-      clock-tidied clock′ q =
-          q ∙ ap₂ (λ (k m : ℕ). set (set (set (set clock 2 k) 3 m) 4 (slots + 1)) 5 (used + moved)) next-stamp next-rows
-          ∙ ap₂ (λ (k m : ℕ). set (set (set (set clock 2 (stampIn clock + 1)) 3 (rowsIn clock)) 4 (k + 1)) 5 (m + moved)) s u
-
-      pub tidy-said : said (At (next .stamp) (record { 0 = moved })) ≡ numbers ((stampIn clock + 1) ∷ moved ∷ [])
-      tidy-said = ap (λ (k : ℕ). numbers (k ∷ moved ∷ [])) next-stamp
+    pub tidy-said : said (At (next .stamp) (record { 0 = moved })) ≡ numbers ((stampIn clock + 1) ∷ moved ∷ [])
+    unfolding later clockIn
+    tidy-said = rw n
 
 -- ---- all tables after it
 
 module _ (clock log moved : List ℕ) (s : ℕ) where
   pub plan-ticks : Plannable clock log s moved → (c : Clock) → c ≡ clockIn clock → c .stamp .0 < 4294967295
   plan-ticks f c e = stamp-fits clock c e (f .stamp-low)
-
-  pub plan-count : Plannable clock log s moved → (n : ℕ) → n ≡ countOf moved → n < 4294967296
-  plan-count f n e = omega (arith, f .few-moved)
 
   pub plan-is : (c next : Clock) (slot used wide to n m : ℕ) → c ≡ clockIn clock → next ≡ later c (c .rows) → slot ≡ slotsIn clock
       → used ≡ changesIn clock → wide ≡ used → to ≡ endAt log s → n ≡ countOf moved → m ≡ n
@@ -101,106 +91,41 @@ module _ (clock log moved : List ℕ) (s : ℕ) where
   plan-is c next slot used wide to n m e h k u w t a b = rw (h, e, k, w, u, t, b, a)
 
 module _ (clock slots words heads log changes moved : List ℕ) (s v : ℕ) (f : TidyReady clock slots words heads log changes s v moved) where
-  pub plannable : Plannable clock log s moved
-  plannable =
-      let g = f .tidyable in
-      record {
-        clock-room = g .room .clock-room;
-        log-room = g .room .log-room;
-        stamp-low = f .stamp-low;
-        start-low = omega (arith, g .start-old, f .stamp-low);
-        few-moved = omega (arith, f .places-low);
-      }
-
   module _ (p : Plan) (e : p ≡ planOf clock log s moved) where
-    slot-is : p .slot ≡ slotsIn clock
-    unfolding planOf
-    slot-is = ap (λ (x : Plan). x .slot) e
-
-    used-is : p .used ≡ changesIn clock
-    unfolding planOf
-    used-is = ap (λ (x : Plan). x .used) e
-
-    to-is : p .to ≡ endAt log s
-    unfolding planOf
-    to-is = ap (λ (x : Plan). x .to) e
-
-    count-is : p .count ≡ countOf moved
-    unfolding planOf
-    count-is = ap (λ (x : Plan). x .count) e
-
-    next-is : p .next ≡ later (clockIn clock) (clockIn clock .rows)
-    unfolding planOf
-    next-is = ap (λ (x : Plan). x .next) e
-
     pub version-fillable : Fillable slots words heads log changes (p .slot) s v
-    version-fillable =
-        let g = f .tidyable in
-        record {
-          based = g .based;
-          words-room = g .room .words-room;
-          slot-low = omega (arith, f .slot-low, slot-is);
-          start-low = omega (arith, g .start-old, f .stamp-low);
-          rows = g .rows;
-        }
+    unfolding planOf
+    version-fillable = rw e (search arith)
 
     pub moved-puttable : Puttable changes (p .used) (p .to) v (countOf moved)
-    moved-puttable =
-        let g = f .tidyable in
-        record {
-          changes-room = g .room .changes-room;
-          old-before = omega (arith, g .end-old, to-is, used-is);
-          places-low = omega (arith, f .places-low, used-is);
-          value-low = g .based .headed .value-low;
-        }
+    unfolding planOf
+    moved-puttable = rw e (search arith)
 
-    pub tidy-writes : (p .next ≡ later (clockIn clock) (clockIn clock .rows)) × (6 ≤ length clock) × (2048 ≤ length log) × (stampIn clock < 512)
+    pub tidy-writes : (p .next ≡ later (clockIn clock) (clockIn clock .rows)) × (6 ≤ length clock) × (2048 ≤ length log)
+        × (stampIn clock < 512)
         × (changesIn clock + p .count ≤ 2048) × (slotsIn clock < 96)
-    tidy-writes = (
-      next-is,
-      f .tidyable .room .clock-room,
-      f .tidyable .room .log-room,
-      f .stamp-low,
-      omega (arith, f .places-low, count-is),
-      f .slot-low,
-    )
+    unfolding planOf
+    tidy-writes = rw e (search arith)
 
     pub tidy-done : (z : ℕ) (clock′ slots′ words′ heads′ log′ changes′ : List ℕ) (r : Answer)
         → VersionPut slots words heads log changes (p .slot) (p .next .stamp .0) s v slots′ words′ heads′
         → RowsPut (rowsOf moved) (p .used) (p .to) v changes changes′ z
-        → (clock′ ≡ tidyClock clock (p .count)) × (log′ ≡ tidyLog clock log (p .count)) × (said r ≡ numbers ((stampIn clock + 1) ∷ p .count ∷ []))
+        → (clock′ ≡ tidyClock clock (p .count)) × (log′ ≡ tidyLog clock log (p .count))
+        × (said r ≡ numbers ((stampIn clock + 1) ∷ p .count ∷ []))
         → Tidied (tables clock slots words heads log changes) (tables clock′ slots′ words′ heads′ log′ changes′) s v moved r
-    unfolding tidiedCells later clockIn
+    unfolding tidiedCells planOf later clockIn
     tidy-done z clock′ slots′ words′ heads′ log′ changes′ r x y w = λ ts.
-        rw (
-          w .0,
-          w .1,
-          w .2,
-          count-is,
-          x .slots-are,
-          x .words-are,
-          x .heads-are,
-          y .stored,
-          slot-is,
-          used-is,
-          to-is,
-          next-is,
-        )
+        rw (w .0, w .1, w .2, x .slots-are, x .words-are, x .heads-are, y .stored, e)
 
 -- ---- its own tests
 
 -- what passing them says
-pub record Passing (clock : List ℕ) (moved : List ℕ) : Type 0 where
-  pub stamp-low : stampIn clock < 512
-  pub places-low : changesIn clock + countOf moved ≤ 2048
-  pub slot-low : slotsIn clock < 96
-
-pub passing : (clock slots heads log changes : List ℕ) (s v : ℕ) (moved : List ℕ) → firstOf (tidyTests clock slots heads log changes s v moved) ≡ none
-    → Passing clock moved
+pub passing : (clock slots heads log changes : List ℕ) (s v : ℕ) (moved : List ℕ)
+    → firstOf (tidyTests clock slots heads log changes s v moved) ≡ none
+    → (stampIn clock < 512) × (changesIn clock + countOf moved ≤ 2048) × (slotsIn clock < 96)
 unfolding tidyTests
 passing clock slots heads log changes s v moved e =
     let p = all-fail (tidyTests clock slots heads log changes s v moved) e in
-    record { stamp-low = leb-false _ _ (p .1 .1 .0); places-low = ltb-false _ _ (p .1 .1 .1 .0); slot-low = leb-false _ _ (p .1 .1 .1 .1 .0) }
+    (leb-false _ _ (p .1 .1 .0), ltb-false _ _ (p .1 .1 .1 .0), leb-false _ _ (p .1 .1 .1 .1 .0))
 
 module _ (clock slots words heads log changes : List ℕ) (s v to : ℕ) (moved : List ℕ) (go : asked.Test) (a : to ≡ endAt log s)
     (m : moved ≡ vec (flippedIn changes 0 to v) 32) (q : whyOf go ≡ firstOf (tidyTests clock slots heads log changes s v moved)) where
@@ -222,9 +147,7 @@ module _ (clock slots words heads log changes : List ℕ) (s v to : ℕ) (moved 
 
   module _ (h : go ≡ Passed) where
     pub tidy-ready : Tidyable clock slots words heads log changes s v → TidyReady clock slots words heads log changes s v moved
-    tidy-ready f =
-        let p = passing clock slots heads log changes s v moved (sym q ∙ ap whyOf h) in
-        record { tidyable = f; stamp-low = p .stamp-low; places-low = p .places-low; slot-low = p .slot-low }
+    tidy-ready f = let p = passing clock slots heads log changes s v moved (sym q ∙ ap whyOf h) in search
 
     pub tidy-answers : (after : List Session → Tables) (r : Answer) → Tidied lent after s v moved r → Tidies lent after s v r
     unfolding tidyCells unless
@@ -233,26 +156,11 @@ module _ (clock slots words heads log changes : List ℕ) (s v to : ℕ) (moved 
         f ts ∙ ap (tidiedCells (lent ts) s v) moved-is
         ∙ ap (λ (w : Option ℕ). unless w (lent ts) [] o) (sym (ap whyOf h) ∙ why-is)
 
--- what `ready` needs, and the rows that it is given
-module _ (clock slots words heads log changes : List ℕ) (s v : ℕ) (f : Tidyable clock slots words heads log changes s v) where
-  pub start-in : s ≤ 512
-  start-in = omega (arith, f .start-old, f .few-records)
-
-  pub moved-rows : (to : ℕ) → to ≡ endAt log s → RowsLow changes 0 to
-  moved-rows to e = subst (RowsLow changes 0) (sym e) (f .rows)
-
-  pub ready-needs : (6 ≤ length clock) × Datable slots heads log changes (stampIn clock) s v
-  ready-needs = (
-    f .room .clock-room,
-    record {
-      headed = f .based .headed;
-      log-room = f .room .log-room;
-      changes-room = f .room .changes-room;
-      last-low = f .few-records;
-      start-low = start-in;
-      end-low = omega (arith, f .last-end, f .few-changes);
-    },
-  )
+-- the changes that the moved rows are told by
+pub moved-rows : (clock slots words heads log changes : List ℕ) (s v to : ℕ) → Tidyable clock slots words heads log changes s v
+    → to ≡ endAt log s
+    → RowsLow changes 0 to
+moved-rows clock slots words heads log changes s v to f e = rw e (f .rows)
 
 -- ---- the call
 
@@ -261,13 +169,6 @@ unless-same : (o : Option ℕ) (t : Tables) (a b : Outcome) → (o ≡ none → 
 unfolding unless
 unless-same none t a b h = h refl
 unless-same (some n) t a b h = refl
-
--- the tests of a tidy after those that it shares
-abbrev restOf : Tables → ℕ → ℕ → List Test
-restOf t n v =
-    let x = session (meaning t) n in
-    nothingToMove (meaning t) x v ∷ isStale (meaning t) x v ∷ recordsFull (meaning t) ∷ changesFull (meaning t) (length (moved (meaning t .log) (startOf x) v))
-    ∷ slotsFull (meaning t) ∷ []
 
 module _ (clock slots words heads log changes : List ℕ) (x : Seat) (n v : ℕ) (test : asked.Test)
     (q : whyOf test ≡ valuedBy clock slots words heads log changes x n v) where
@@ -280,7 +181,7 @@ module _ (clock slots words heads log changes : List ℕ) (x : Seat) (n v : ℕ)
       valued-refused clock slots words heads log changes [] x n (tidy n v)
       (λ t. let s = own t n .start .0 in
       outcome (stores t (tidyStores t s v)) [] (numbers ((stampIn (t .clock) + 1) ∷ length (moved (meaning t .log) s v) ∷ [])))
-      test why h untouched (answer.No why) (idle _ _ refl) (λ t. restOf t n v) v (λ t. refl) q
+      test why h untouched (answer.No why) (idle _ _ refl) (λ t. restTests t v (session (meaning t) n)) v (λ t. refl) q
 
   module _ (h : test ≡ Passed) where
     valued : Valued clock slots words heads log changes (x .session) n v
@@ -295,15 +196,7 @@ module _ (clock slots words heads log changes : List ℕ) (x : Seat) (n v : ℕ)
         let k = clock-limits clock (p .clock-fits) in
         let r = room-facts t (y .room) in
         record {
-          room =
-              record {
-                clock-room = r .clock-room;
-                slots-room = r .slots-room;
-                words-room = r .words-room;
-                heads-room = r .heads-room;
-                log-room = r .log-room;
-                changes-room = r .changes-room;
-              };
+          room = search;
           based = based t (y .room) (y .good) s (y .start-old) v (y .value-low);
           rows = rows-low t (y .room) (y .good) s (y .start-old) 0;
           start-old = y .start-old;
@@ -319,14 +212,16 @@ module _ (clock slots words heads log changes : List ℕ) (x : Seat) (n v : ℕ)
     tidy-served after a f = λ ts e.
         let t = given ts in
         let s = x .session .start .0 in
-        let g = valued-goes t n x e (tidy n v) (restOf t n v) test v refl q h in
-        let w = valued-shows t n x e (tidy n v) (restOf t n v) test v refl q h in
-        let o : ℕ → Outcome = λ k. outcome (stores t (tidyStores t k v)) [] (numbers ((stampIn (t .clock) + 1) ∷ length (moved (meaning t .log) k v) ∷ [])) in
+        let g = valued-goes t n x e (tidy n v) (restTests t v (session (meaning t) n)) test v refl q h in
+        let w = valued-shows t n x e (tidy n v) (restTests t v (session (meaning t) n)) test v refl q h in
+        let o : ℕ → Outcome = λ k. outcome (stores t (tidyStores t k v)) []
+        (numbers ((stampIn (t .clock) + 1) ∷ length (moved (meaning t .log) k v) ∷ [])) in
         let low : s ≤ stampIn clock = w .facts .start-old in
         let ts₀ = firstOf (tidyTests clock slots heads log changes s v (movedIn log changes s v)) in
         f ts
         ∙ unless-same ts₀ t (tidiedCells t s v (movedIn log changes s v)) (o s)
-        (λ z. cells-meet t (g .good) s low v (valued .value-low) (room-facts t (g .room) .words-room) (passing clock slots heads log changes s v (movedIn log changes s v) z .slot-low))
+        (λ z. cells-meet t (g .good) s low v (valued .value-low) (room-facts t (g .room) .words-room)
+        (passing clock slots heads log changes s v (movedIn log changes s v) z .2))
         ∙ ap₂ (λ (r : Option ℕ) (k : ℕ). unless r t [] (o k))
         (tests-meet t (g .good) s low v (valued .value-low) (session (meaning t) n) (w .start-means) ∙ sym (g .rest-decides))
         (ap (λ (y : Session). y .start .0) (sym (w .own-there)))

@@ -8,7 +8,7 @@ use lib.Dec.{eqb, leb, ltb}
 use lib.ListN.{length, set}
 use Rattle.bits.specs.Bit.{bit, clearBit}
 use Rattle.bits.specs.Part.{putPart}
-use Rattle.bits.specs.Rows.{countBelow, rowsBelow, countOf, rowsOf}
+use Rattle.bits.specs.Rows.{countOf, rowsOf}
 use Rattle.bits.specs.Vec.{vec}
 use Rattle.bits.specs.Words.{bitAt}
 use Rattle.rules.specs.State.{Change}
@@ -71,10 +71,6 @@ lessAt changes to v r = record { row = r; flips = clearBit (lastSet changes 0 to
 pub record RowsPut (rows : List ℕ) (from to v : ℕ) (changes changes′ : List ℕ) (p : ℕ) : Type 0 where
   pub stored : changes′ ≡ putChanges changes from (map (lessAt changes to v) rows)
   pub place : p ≡ from + length rows
-
--- the rows of a word whose bit k is row base + k, of its first n bits
-abbrev pub wordRows : ℕ → ℕ → ℕ → List ℕ
-wordRows base word n = map (λ k. base + k) (rowsBelow (bit word) n)
 
 -- what the changes of n rows need from place `from` on: the changes that they are made of stand before it
 pub record Puttable (changes : List ℕ) (from to v n : ℕ) : Type 0 where

@@ -11,9 +11,8 @@ ghost use mathlib.Core.Path.{_≡_};
 ghost use mathlib.Core.List.{[], _∷_};
 ghost use Prim.Native.Nat.{_+_, _*_, _<_, _≤_};
 ghost use lib.ListN.{length, set};
-ghost use Rattle.bits.specs.Bit.{bit};
 ghost use Rattle.bits.specs.Part.{putPart};
-ghost use Rattle.bits.specs.Rows.{countBelow, countOf, rowsOf};
+ghost use Rattle.bits.specs.Rows.{countOf, rowsOf};
 ghost use Rattle.bits.specs.Vec.{vec};
 ghost use Rattle.bits.specs.Words.{xorWords};
 ghost use Rattle.rules.specs.Refusals.{firstOf};
@@ -26,7 +25,9 @@ ghost use Rattle.calls.specs.Said.{said, numbers};
 ghost use Rattle.calls.specs.Calls.{tidyOf};
 ghost use Rattle.calls.specs.Seats.{Serves, untouched};
 ghost use Rattle.calls.specs.Enter.{whyOf};
-ghost use Rattle.tidying.specs.Tidy.{touchedIn, staleAt, Datable, tidyTests, RowsPut, wordRows, Puttable, Fillable, VersionPut, Tidyable, TidyReady, Plannable, planOf, tidyClock, tidyLog, Tidied, Tidies};
+ghost use Rattle.tidying.specs.Tidy.{touchedIn, staleAt, Datable, tidyTests, RowsPut, Puttable, Fillable};
+ghost use Rattle.tidying.specs.Tidy.{VersionPut, Tidyable, TidyReady, Plannable, planOf, tidyClock, tidyLog};
+ghost use Rattle.tidying.specs.Tidy.{Tidied, Tidies};
 
 // Whether one of the changes from `from` to `to` names a moved row or has v.
 fn touched(changes: &[u32], from: usize, to: usize, moved: &[u64; 32], v: Value) -> bool
@@ -60,7 +61,8 @@ fn stale(
     moved: &[u64; 32],
 ) -> bool
     requires { ⌜ Datable (now slots) (now heads) (now log) (now changes) (last .0) (s .0) (v .0) ⌝ }
-    ensures { λ r. ⌜ r ≡ staleAt (now (slots .entry)) (now (heads .entry)) (now (log .entry)) (now (changes .entry)) (last .0) (s .0) (v .0) (now (moved .entry)) ⌝ }
+    ensures { λ r. ⌜ r ≡ staleAt (now (slots .entry)) (now (heads .entry)) (now (log .entry)) (now (changes .entry))
+        (last .0) (s .0) (v .0) (now (moved .entry)) ⌝ }
 {
     let head = tables::slot_stamp(slots, tables::head_of(heads, v));
     if s.0 < head.0 {
@@ -86,34 +88,25 @@ fn put_less(changes: &mut [u32], p: usize, to: usize, row: Row, v: Value) -> usi
     p + 1
 }
 
-// The changes of the moved rows of a word, ascending, are written from `from` on. Where they end.
-fn write_word(changes: &mut [u32], from: usize, to: usize, word: u64, base: u32, v: Value) -> usize
-    requires { ⌜ Puttable (now changes) from to (v .0) (countBelow (bit word) 64) × (base ≤ 2048) ⌝ }
-    ensures { λ r. ⌜ RowsPut (wordRows base word 64) from to (v .0) (now (changes .entry)) (now (changes .exit)) r ⌝ }
-{
-    let mut p = from;
-    let mut x = word;
-    let mut k: u32 = 0;
-    while x != 0 {
-        let t = u64::trailing_zeros(x);
-        k += t;
-        let row = base + k;
-        p = put_less(changes, p, to, Row(row), v);
-        k += 1;
-        x = (x >> t) >> 1;
-    }
-    p
-}
-
-// The changes of the moved rows, ascending, are written from `from` on.
+// The changes of the moved rows, ascending, are written from `from` on: a word at a time, from one set bit to the next.
 fn write_moved(changes: &mut [u32], from: usize, to: usize, moved: &[u64], v: Value)
     requires { ⌜ Puttable (now changes) from to (v .0) (countOf (now moved)) × (length (now moved) ≡ 32) ⌝ }
-    ensures { λ _. ⌜ RowsPut (rowsOf (now (moved .entry))) from to (v .0) (now (changes .entry)) (now (changes .exit)) (from + countOf (now (moved .entry))) ⌝ }
+    ensures { λ _. ⌜ RowsPut (rowsOf (now (moved .entry))) from to (v .0) (now (changes .entry)) (now (changes .exit))
+        (from + countOf (now (moved .entry))) ⌝ }
 {
     let mut p = from;
     let mut i: usize = 0;
     while i < 32 {
-        p = write_word(changes, p, to, moved[i], bits::narrow(i * 64), v);
+        let base = bits::narrow(i * 64);
+        let mut x = moved[i];
+        let mut k: u32 = 0;
+        while x != 0 {
+            let t = u64::trailing_zeros(x);
+            k += t;
+            p = put_less(changes, p, to, Row(base + k), v);
+            k += 1;
+            x = (x >> t) >> 1;
+        }
         i += 1;
     }
 }
@@ -150,7 +143,10 @@ fn write_vector(
     v: Value,
 )
     requires { ⌜ Fillable (now slots) (now words) (now heads) (now log) (now changes) k (s .0) (v .0) ⌝ }
-    ensures { λ _. ⌜ now (words .exit) ≡ putPart (32 * k) (vec (queriedAt (now (slots .entry)) (now (words .entry)) (now (heads .entry)) (now (log .entry)) (now (changes .entry)) (s .0) (v .0)) 32) (now (words .entry)) ⌝ }
+    ensures { λ _. ⌜ now (words .exit) ≡ putPart (32 * k)
+        (vec
+        (queriedAt (now (slots .entry)) (now (words .entry)) (now (heads .entry)) (now (log .entry)) (now (changes .entry))
+        (s .0) (v .0)) 32) (now (words .entry)) ⌝ }
 {
     let base = history::base_of(slots, heads, log, v, s);
     let slot = base.slot;
@@ -164,7 +160,9 @@ fn write_vector(
 // Slot k becomes v's newest: linked to the old head, and the head names it.
 fn link_slot(slots: &mut [u32], heads: &mut [u32], k: u32, stamp: Stamp, v: Value)
     requires { ⌜ Headed (now slots) (now heads) (v .0) × (k < 96) ⌝ }
-    ensures { λ _. ⌜ (now (slots .exit) ≡ putSlot (now (slots .entry)) k (v .0) (stamp .0) (headOf (now (heads .entry)) (v .0) + 1)) × (now (heads .exit) ≡ putHead (now (heads .entry)) (v .0) k) ⌝ }
+    ensures { λ _. ⌜
+        (now (slots .exit) ≡ putSlot (now (slots .entry)) k (v .0) (stamp .0) (headOf (now (heads .entry)) (v .0) + 1)) ×
+        (now (heads .exit) ≡ putHead (now (heads .entry)) (v .0) k) ⌝ }
 {
     let link = bits::narrow(tables::head_of(heads, v)) + 1;
     tables::put_slot(slots, bits::wide(k), v, stamp, link);
@@ -184,7 +182,8 @@ fn write_version(
     v: Value,
 )
     requires { ⌜ Fillable (now slots) (now words) (now heads) (now log) (now changes) k (s .0) (v .0) ⌝ }
-    ensures { λ _. ⌜ VersionPut (now (slots .entry)) (now (words .entry)) (now (heads .entry)) (now (log .entry)) (now (changes .entry)) k (stamp .0) (s .0) (v .0) (now (slots .exit)) (now (words .exit)) (now (heads .exit)) ⌝ }
+    ensures { λ _. ⌜ VersionPut (now (slots .entry)) (now (words .entry)) (now (heads .entry)) (now (log .entry))
+        (now (changes .entry)) k (stamp .0) (s .0) (v .0) (now (slots .exit)) (now (words .exit)) (now (heads .exit)) ⌝ }
 {
     write_vector(slots, words, heads, log, changes, k, s, v);
     link_slot(slots, heads, k, stamp, v);
@@ -202,8 +201,12 @@ fn write_counts(clock: &mut [u32], c: Clock, slots: u32, changes: u32)
 
 // The record of a tidy and the clock after it are written.
 fn write_tidy(clock: &mut [u32], log: &mut [u32], next: Clock, moved: u32) -> Answer
-    requires { ⌜ (next ≡ later (clockIn (now clock)) (clockIn (now clock) .rows)) × (6 ≤ length (now clock)) × (2048 ≤ length (now log)) × (stampIn (now clock) < 512) × (changesIn (now clock) + moved ≤ 2048) × (slotsIn (now clock) < 96) ⌝ }
-    ensures { λ r. ⌜ (now (clock .exit) ≡ tidyClock (now (clock .entry)) moved) × (now (log .exit) ≡ tidyLog (now (clock .entry)) (now (log .entry)) moved) × (said r ≡ numbers ((stampIn (now (clock .entry)) + 1) ∷ moved ∷ [])) ⌝ }
+    requires { ⌜ (next ≡ later (clockIn (now clock)) (clockIn (now clock) .rows)) × (6 ≤ length (now clock)) ×
+        (2048 ≤ length (now log)) × (stampIn (now clock) < 512) × (changesIn (now clock) + moved ≤ 2048) ×
+        (slotsIn (now clock) < 96) ⌝ }
+    ensures { λ r. ⌜ (now (clock .exit) ≡ tidyClock (now (clock .entry)) moved) ×
+        (now (log .exit) ≡ tidyLog (now (clock .entry)) (now (log .entry)) moved) ×
+        (said r ≡ numbers ((stampIn (now (clock .entry)) + 1) ∷ moved ∷ [])) ⌝ }
 {
     let c = tables::clock_of(clock);
     let before = c.stamp;
@@ -228,7 +231,9 @@ fn ready(
     moved: &[u64; 32],
 ) -> Test
     requires { ⌜ (6 ≤ length (now clock)) × Datable (now slots) (now heads) (now log) (now changes) (stampIn (now clock)) (s .0) (v .0) ⌝ }
-    ensures { λ r. ⌜ whyOf r ≡ firstOf (tidyTests (now (clock .entry)) (now (slots .entry)) (now (heads .entry)) (now (log .entry)) (now (changes .entry)) (s .0) (v .0) (now (moved .entry))) ⌝ }
+    ensures { λ r. ⌜ whyOf r ≡ firstOf
+        (tidyTests (now (clock .entry)) (now (slots .entry)) (now (heads .entry)) (now (log .entry)) (now (changes .entry))
+        (s .0) (v .0) (now (moved .entry))) ⌝ }
 {
     let c = tables::clock_of(clock);
     let stamp = c.stamp;
@@ -295,7 +300,11 @@ fn tidy_work(
     moved: &[u64; 32],
 ) -> Answer
     requires { ⌜ TidyReady (now clock) (now slots) (now words) (now heads) (now log) (now changes) (s .0) (v .0) (now moved) ⌝ }
-    ensures { λ r. ⌜ Tidied (tables (now (clock .entry)) (now (slots .entry)) (now (words .entry)) (now (heads .entry)) (now (log .entry)) (now (changes .entry))) (tables (now (clock .exit)) (now (slots .exit)) (now (words .exit)) (now (heads .exit)) (now (log .exit)) (now (changes .exit))) (s .0) (v .0) (now (moved .entry)) r ⌝ }
+    ensures { λ r. ⌜ Tidied
+        (tables (now (clock .entry)) (now (slots .entry)) (now (words .entry)) (now (heads .entry)) (now (log .entry))
+        (now (changes .entry)))
+        (tables (now (clock .exit)) (now (slots .exit)) (now (words .exit)) (now (heads .exit)) (now (log .exit))
+        (now (changes .exit))) (s .0) (v .0) (now (moved .entry)) r ⌝ }
 {
     let plan = planned(clock, log, s, moved);
     let next = plan.next;
@@ -317,7 +326,11 @@ fn tidy_at(
     v: Value,
 ) -> Answer
     requires { ⌜ Tidyable (now clock) (now slots) (now words) (now heads) (now log) (now changes) (s .0) (v .0) ⌝ }
-    ensures { λ r. ⌜ Tidies (tables (now (clock .entry)) (now (slots .entry)) (now (words .entry)) (now (heads .entry)) (now (log .entry)) (now (changes .entry))) (tables (now (clock .exit)) (now (slots .exit)) (now (words .exit)) (now (heads .exit)) (now (log .exit)) (now (changes .exit))) (s .0) (v .0) r ⌝ }
+    ensures { λ r. ⌜ Tidies
+        (tables (now (clock .entry)) (now (slots .entry)) (now (words .entry)) (now (heads .entry)) (now (log .entry))
+        (now (changes .entry)))
+        (tables (now (clock .exit)) (now (slots .exit)) (now (words .exit)) (now (heads .exit)) (now (log .exit))
+        (now (changes .exit))) (s .0) (v .0) r ⌝ }
 {
     let moved = history::flips(changes, 0, tables::end_at(log, s), v);
     let go = ready(clock, slots, heads, log, changes, s, v, &moved);
@@ -339,7 +352,11 @@ pub fn tidy_in(
     n: u64,
     v: Value,
 ) -> Answer
-    ensures { λ r. ⌜ Serves (tables (now (clock .entry)) (now (slots .entry)) (now (words .entry)) (now (heads .entry)) (now (log .entry)) (now (changes .entry))) (tables (now (clock .exit)) (now (slots .exit)) (now (words .exit)) (now (heads .exit)) (now (log .exit)) (now (changes .exit))) [] seat n untouched r (λ t. tidyOf t n (v .0)) ⌝ }
+    ensures { λ r. ⌜ Serves
+        (tables (now (clock .entry)) (now (slots .entry)) (now (words .entry)) (now (heads .entry)) (now (log .entry))
+        (now (changes .entry)))
+        (tables (now (clock .exit)) (now (slots .exit)) (now (words .exit)) (now (heads .exit)) (now (log .exit))
+        (now (changes .exit))) [] seat n untouched r (λ t. tidyOf t n (v .0)) ⌝ }
 {
     let s = seat.session;
     let start = s.start;

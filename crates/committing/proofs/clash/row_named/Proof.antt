@@ -18,37 +18,16 @@ Inv-loop changes from to row any₀ p₀ any p = names (stretch (changeAt change
 abbrev μ-loop : tie.MeasureT-loop
 μ-loop changes from to row any₀ p₀ any p = to - p
 
-loop-holds : tie.Need-loop-holds Inv-loop μ-loop
-loop-holds c = refl
-
-mul-any : tie.Need-mul-any Inv-loop μ-loop
-mul-any c = omega arith
-
-shared-slice-read-any : tie.Need-shared-slice-read-any Inv-loop μ-loop
-shared-slice-read-any c = omega arith
-
-add-p : tie.Need-add-p Inv-loop μ-loop
-add-p c = omega arith
-
-loop-less : tie.Need-loop-less Inv-loop μ-loop
-loop-less c = omega arith
-
-loop-again : tie.Need-loop-again Inv-loop μ-loop
-loop-again c = search row-again
-
-returns : tie.Need-returns Inv-loop μ-loop
-returns c = search row-end
-
 pub row-named-spec : {M : Type 1} → statement M
 row-named-spec =
     tie.close
     (tie.spec
     Inv-loop
     μ-loop
-    loop-holds
-    mul-any
-    shared-slice-read-any
-    add-p
-    loop-less
-    loop-again
-    returns)
+    (λ c. refl)
+    (λ c. omega arith)
+    (λ c. omega arith)
+    (λ c. omega arith)
+    (λ c. omega arith)
+    (λ c. search row-again)
+    (λ c. search row-end))

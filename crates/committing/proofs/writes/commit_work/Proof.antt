@@ -5,51 +5,36 @@ use Rattle.committing.proofs.CommitWork.{work-clock, work-log, work-sta
 use Rattle.committing.proofs.writes.commit_work.Statement.{statement}
 use Rattle.committing.proofs.writes.commit_work.Tie as tie
 
-clock-of-requires : tie.Need-clock-of-requires
-clock-of-requires c κs = search work-clock
-
-inserts-requires : tie.Need-inserts-requires
-inserts-requires c κs = search needs
-
-add-t15 : tie.Need-add-t15
-add-t15 c = search work-rows-few
-
-changes-used-requires : tie.Need-changes-used-requires
-changes-used-requires c κs = search work-clock
-
-add-end : tie.Need-add-end
-add-end c = search needs
-
-write-changes-requires : tie.Need-write-changes-requires
-write-changes-requires c κs = search needs
-
-write-commit-requires : tie.Need-write-commit-requires
-write-commit-requires c κs = (search work-clock, search work-log, search work-stamp)
-
-same-length : tie.Need-same-length
-same-length c = search needs
-
-same-length-2 : tie.Need-same-length-2
-same-length-2 c = search needs
-
-same-length-3 : tie.Need-same-length-3
-same-length-3 c = search needs
-
 returns : tie.Need-returns
-returns c = search (work-done, c .before .before .before .before .before .before .before .before .before .before .before .before .before .before .before .before .before .before .before .before .before .before .before .before .before .before .before .pre, c .before .before .before .before .before .before .before .before .before .before .before .before .before .before .before .before .before .before .before .clock-of .ensures, c .before .before .before .before .before .before .before .before .before .before .before .before .before .before .before .before .before .inserts .ensures, c .before .before .before .before .before .before .before .before .before .before .before .before .before .before .changes-used .ensures, c .before .before .before .before .before .before .before .before .before .write-changes .ensures, c .before .before .before .before .write-commit .ensures)
+returns c =
+    let p = c .before .before .before .before in
+    let q = p .before .before .before .before .before in
+    let r = q .before .before .before .before .before in
+    let s = r .before .before .before in
+    let t = s .before .before in
+    let u = t .before .before .before .before .before .before .before .before in
+    search (
+      work-done,
+      u .pre,
+      t .clock-of .ensures,
+      s .inserts .ensures,
+      r .changes-used .ensures,
+      q .write-changes .ensures,
+      p .write-commit .ensures,
+    )
 
 pub commit-work-spec : {M : Type 1} → statement M
 commit-work-spec =
     tie.close
     (tie.spec
-    clock-of-requires
-    inserts-requires
-    add-t15
-    changes-used-requires
-    add-end
-    write-changes-requires
-    write-commit-requires
-    same-length
-    same-length-2
-    same-length-3
+    (λ c κs. search work-clock)
+    (λ c κs. search needs)
+    (λ c. search work-rows-few)
+    (λ c κs. search work-clock)
+    (λ c. search needs)
+    (λ c κs. search needs)
+    (λ c κs. (search work-clock, search work-log, search work-stamp))
+    (λ c. search needs)
+    (λ c. search needs)
+    (λ c. search needs)
     returns)

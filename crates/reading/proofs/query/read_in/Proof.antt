@@ -5,39 +5,15 @@ use borrow.Author.Needs.{needs}
 use Rattle.reading.proofs.query.read_in.Statement.{statement}
 use Rattle.reading.proofs.query.read_in.Tie as tie
 
-opened-requires : tie.Need-opened-requires
-opened-requires c κs = search needs
-
-enum-known-test : tie.Need-enum-known-test
-enum-known-test c = search needs
-
-enum-told : tie.Need-enum-told
-enum-told c = search needs
-
-returns : tie.Need-returns
-returns c = search read-no-row
-
-clock-of-requires : tie.Need-clock-of-requires
-clock-of-requires c κs = search read-clock
-
-read-at-requires : tie.Need-read-at-requires
-read-at-requires c κs = search read-readies
-
-returns-2 : tie.Need-returns-2
-returns-2 c = search read-refused
-
-returns-3 : tie.Need-returns-3
-returns-3 c = search read-reads
-
 pub read-in-spec : {M : Type 1} → statement M
 read-in-spec =
     tie.close
     (tie.spec
-    opened-requires
-    enum-known-test
-    enum-told
-    returns
-    clock-of-requires
-    read-at-requires
-    returns-2
-    returns-3)
+    (λ c κs. search needs)
+    (λ c. search needs)
+    (λ c. search needs)
+    (λ c. search read-no-row)
+    (λ c κs. search read-clock)
+    (λ c κs. search read-readies)
+    (λ c. search read-refused)
+    (λ c. search read-reads))

@@ -5,83 +5,35 @@ use borrow.Author.Needs.{needs}
 use Rattle.tidying.proofs.tidy.tidy_at.Statement.{statement}
 use Rattle.tidying.proofs.tidy.tidy_at.Tie as tie
 
-end-at-requires : tie.Need-end-at-requires
-end-at-requires c κs = search needs
-
-flips-requires : tie.Need-flips-requires
-flips-requires c κs = (search needs, search moved-rows)
-
-ready-requires : tie.Need-ready-requires
-ready-requires c κs = search needs
-
-enum-known-go : tie.Need-enum-known-go
-enum-known-go c = search needs
-
-enum-told : tie.Need-enum-told
-enum-told c = search needs
-
 tidy-work-requires : tie.Need-tidy-work-requires
-tidy-work-requires c κs = tidy-ready _ _ _ _ _ _ _ _ _ _ _ (c .before .before .before .before .before .before .before .before .before .before .before .before .before .before .before .before .before .end-at .ensures) (c .before .before .before .before .before .before .before .before .before .before .before .before .before .before .before .before .flips .ensures) (c .before .before .before .before .before .before .before .before .before .ready .ensures) (c .before .before .before .before .before .before .before .enum-told .given .1) (c .before .before .before .before .before .before .before .before .before .before .before .before .before .before .before .before .before .before .before .before .before .before .before .before .before .before .pre)
-
-same-length : tie.Need-same-length
-same-length c = search needs
-
-same-length-2 : tie.Need-same-length-2
-same-length-2 c = search needs
-
-same-length-3 : tie.Need-same-length-3
-same-length-3 c = search needs
-
-same-length-4 : tie.Need-same-length-4
-same-length-4 c = search needs
-
-same-length-5 : tie.Need-same-length-5
-same-length-5 c = search needs
-
-returns : tie.Need-returns
-returns c = search tidy-refuses
-
-same-length-6 : tie.Need-same-length-6
-same-length-6 c = search needs
-
-same-length-7 : tie.Need-same-length-7
-same-length-7 c = search needs
-
-same-length-8 : tie.Need-same-length-8
-same-length-8 c = search needs
-
-same-length-9 : tie.Need-same-length-9
-same-length-9 c = search needs
-
-same-length-10 : tie.Need-same-length-10
-same-length-10 c = search needs
-
-same-length-11 : tie.Need-same-length-11
-same-length-11 c = search needs
-
-returns-2 : tie.Need-returns-2
-returns-2 c = search tidy-answers
+tidy-work-requires c κs =
+    let p = c .before .before .before .before .before .before .before in
+    let q = p .before .before in
+    let r = q .before .before .before .before .before .before .before in
+    let s = r .before in
+    let t = s .before .before .before .before .before .before .before .before .before in
+    tidy-ready _ _ _ _ _ _ _ _ _ _ _ (s .end-at .ensures) (r .flips .ensures) (q .ready .ensures) (p .enum-told .given .1) (t .pre)
 
 pub tidy-at-spec : {M : Type 1} → statement M
 tidy-at-spec =
     tie.close
     (tie.spec
-    end-at-requires
-    flips-requires
-    ready-requires
-    enum-known-go
-    enum-told
+    (λ c κs. search needs)
+    (λ c κs. (search needs, search moved-rows))
+    (λ c κs. search needs)
+    (λ c. search needs)
+    (λ c. search needs)
     tidy-work-requires
-    same-length
-    same-length-2
-    same-length-3
-    same-length-4
-    same-length-5
-    returns
-    same-length-6
-    same-length-7
-    same-length-8
-    same-length-9
-    same-length-10
-    same-length-11
-    returns-2)
+    (λ c. search needs)
+    (λ c. search needs)
+    (λ c. search needs)
+    (λ c. search needs)
+    (λ c. search needs)
+    (λ c. search tidy-refuses)
+    (λ c. search needs)
+    (λ c. search needs)
+    (λ c. search needs)
+    (λ c. search needs)
+    (λ c. search needs)
+    (λ c. search needs)
+    (λ c. search tidy-answers))

@@ -6,51 +6,35 @@ use borrow.Author.Needs.{needs}
 use Rattle.tidying.proofs.tidy.tidy_work.Statement.{statement}
 use Rattle.tidying.proofs.tidy.tidy_work.Tie as tie
 
-planned-requires : tie.Need-planned-requires
-planned-requires c κs = search needs
-
-write-version-requires : tie.Need-write-version-requires
-write-version-requires c κs = search version-fillable
-
-write-moved-requires : tie.Need-write-moved-requires
-write-moved-requires c κs = (search moved-puttable, omega arith)
-
 write-tidy-requires : tie.Need-write-tidy-requires
-write-tidy-requires c κs = tidy-writes _ _ _ _ _ _ _ _ _ (c .before .before .before .before .before .before .before .before .before .before .before .before .before .before .before .before .before .before .before .before .before .before .before .before .before .before .before .before .before .before .pre) _ (c .before .before .before .before .before .before .before .before .before .before .before .before .before .before .before .before .before .before .before .before .before .planned .ensures)
-
-same-length : tie.Need-same-length
-same-length c = search needs
-
-same-length-2 : tie.Need-same-length-2
-same-length-2 c = search needs
-
-same-length-3 : tie.Need-same-length-3
-same-length-3 c = search needs
-
-same-length-4 : tie.Need-same-length-4
-same-length-4 c = search needs
-
-same-length-5 : tie.Need-same-length-5
-same-length-5 c = search needs
-
-same-length-6 : tie.Need-same-length-6
-same-length-6 c = search needs
+write-tidy-requires c κs =
+    let o = c .before .before .before .before .before .before .before .before .before .before .before .before in
+    let p = o .before .before .before .before .before .before .before .before .before in
+    let q = p .before .before .before .before .before .before .before .before .before in
+    tidy-writes _ _ _ _ _ _ _ _ _ (q .pre) _ (p .planned .ensures)
 
 returns : tie.Need-returns
-returns c = tidy-done _ _ _ _ _ _ _ _ _ (c .before .before .before .before .before .before .before .before .before .before .before .before .before .before .before .before .before .before .before .before .before .before .before .before .before .before .before .before .before .before .before .before .before .before .before .pre) _ (c .before .before .before .before .before .before .before .before .before .before .before .before .before .before .before .before .before .before .before .before .before .before .before .before .before .before .planned .ensures) _ _ _ _ _ _ _ (c .before .before .before .before .write-tidy .result) (c .before .before .before .before .before .before .before .before .before .before .before .before .before .before .before .before .before .before .write-version .ensures) (c .before .before .before .before .before .before .before .before .before .write-moved .ensures) (c .before .before .before .before .write-tidy .ensures)
+returns c =
+    let p = c .before .before .before .before in
+    let q = p .before .before .before .before .before in
+    let r = q .before .before .before .before .before .before .before .before .before in
+    let s = r .before .before .before .before .before .before .before .before in
+    let t = s .before .before .before .before .before .before .before .before .before in
+    tidy-done _ _ _ _ _ _ _ _ _ (t .pre) _ (s .planned .ensures) _ _ _ _ _ _ _ (p .write-tidy .result) (r .write-version .ensures)
+    (q .write-moved .ensures) (p .write-tidy .ensures)
 
 pub tidy-work-spec : {M : Type 1} → statement M
 tidy-work-spec =
     tie.close
     (tie.spec
-    planned-requires
-    write-version-requires
-    write-moved-requires
+    (λ c κs. search needs)
+    (λ c κs. search version-fillable)
+    (λ c κs. (search moved-puttable, omega arith))
     write-tidy-requires
-    same-length
-    same-length-2
-    same-length-3
-    same-length-4
-    same-length-5
-    same-length-6
+    (λ c. search needs)
+    (λ c. search needs)
+    (λ c. search needs)
+    (λ c. search needs)
+    (λ c. search needs)
+    (λ c. search needs)
     returns)
