@@ -31,6 +31,10 @@ pub digit-high : (b : ℕ) → isDigit b ≡ true → b ≤ 57
 unfolding isDigit
 digit-high b h = leb-true b 57 (both (leb 48 b) (leb b 57) h .1)
 
+pub digit-in : (b : ℕ) → 48 ≤ b → b ≤ 57 → isDigit b ≡ true
+unfolding isDigit
+digit-in b l h = rw (le-leb 48 b l, le-leb b 57 h)
+
 -- what a test of a byte says
 pub digit-yes : (b : ℕ) (d : Bool) → d ≡ isDigit b → d ≡ true → isDigit b ≡ true
 digit-yes b d k u = sym k ∙ u

@@ -5,12 +5,12 @@ use Prim.Native.Nat.{_+_, _-_, _*_, _/_, _≤_}
 use native.Mathlib.Omega.{arith}
 use lib.ListN.{length}
 use Rattle.text.proofs.ShortLaws.{short-none, short-known, short-step, short-end}
-use Rattle.text.proofs.ColumnLaws.{Filling}
+use Rattle.text.specs.Cells.{Filling}
 use Rattle.text.proofs.cells.short_into.Statement.{statement}
 use Rattle.text.proofs.cells.short_into.Tie as tie
 
 abbrev Inv-loop : tie.InvT-loop
-Inv-loop line start column₀ m k₀ column k = (k ≤ m) × (m ≡ (length line - start) / 2) × Filling line column₀ column start (start + 2 * k) k
+Inv-loop line start column₀ m k₀ column k = (k ≤ m) × (m ≡ (length line - start) / 2) × Filling line start 0 column₀ column (start + 2 * k) k
 
 abbrev μ-loop : tie.MeasureT-loop
 μ-loop line start column₀ m k₀ column k = m - k
