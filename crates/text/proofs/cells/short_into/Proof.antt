@@ -15,24 +15,6 @@ Inv-loop line start column₀ m k₀ column k = (k ≤ m) × (m ≡ (length line
 abbrev μ-loop : tie.MeasureT-loop
 μ-loop line start column₀ m k₀ column k = m - k
 
-sub-m : tie.Need-sub-m Inv-loop μ-loop
-sub-m c = omega (arith, c .before .before .pre .1 .even)
-
-loop-holds : tie.Need-loop-holds Inv-loop μ-loop
-loop-holds c = (omega arith, omega arith, short-none _ _ _)
-
-mul-short-value : tie.Need-mul-short-value Inv-loop μ-loop
-mul-short-value c = omega (arith, c .before .before .before .before .pre .1 .even)
-
-add-short-value : tie.Need-add-short-value Inv-loop μ-loop
-add-short-value c = omega (arith, c .before .before .before .before .pre .1 .even)
-
-add-short-value-2 : tie.Need-add-short-value-2 Inv-loop μ-loop
-add-short-value-2 c = omega (arith, c .before .before .before .before .pre .1 .even)
-
-shared-slice-read-short-value : tie.Need-shared-slice-read-short-value Inv-loop μ-loop
-shared-slice-read-short-value c = omega (arith, c .before .before .before .before .before .pre .1 .even)
-
 short-value-requires : tie.Need-short-value-requires Inv-loop μ-loop
 short-value-requires c κs = short-known _ _ _ _ (c .before .before .before .before .before .pre .1) (c .before .before .loop .inv .1)
     (omega arith)
@@ -41,12 +23,6 @@ slice-write-column : tie.Need-slice-write-column Inv-loop μ-loop
 slice-write-column c = omega
     (arith, c .before .before .before .before .before .before .pre .1 .even, c .before .before .before .loop .inv .2 .room)
 
-add-k : tie.Need-add-k Inv-loop μ-loop
-add-k c = omega arith
-
-loop-less : tie.Need-loop-less Inv-loop μ-loop
-loop-less c = omega arith
-
 loop-again : tie.Need-loop-again Inv-loop μ-loop
 loop-again c = (
   omega arith,
@@ -54,9 +30,6 @@ loop-again c = (
   short-step _ _ _ _ _ _ (c .before .before .before .before .before .before .pre .1)
       (c .before .before .before .loop .inv .1) _ (c .before .before .before .loop .inv .2) (omega arith) (c .short-value .ensures),
 )
-
-same-length : tie.Need-same-length Inv-loop μ-loop
-same-length c = c .before .loop .inv .2 .room
 
 returns : tie.Need-returns Inv-loop μ-loop
 returns c = short-end _ _ _ _ _ _ (c .before .before .before .before .pre .1) (c .before .loop .inv .1) (c .before .loop .inv .2)
@@ -68,16 +41,16 @@ short-into-spec =
     (tie.spec
     Inv-loop
     μ-loop
-    sub-m
-    loop-holds
-    mul-short-value
-    add-short-value
-    add-short-value-2
-    shared-slice-read-short-value
+    (λ c. omega (arith, c .before .before .pre .1 .even))
+    (λ c. (omega arith, omega arith, short-none _ _ _))
+    (λ c. omega (arith, c .before .before .before .before .pre .1 .even))
+    (λ c. omega (arith, c .before .before .before .before .pre .1 .even))
+    (λ c. omega (arith, c .before .before .before .before .pre .1 .even))
+    (λ c. omega (arith, c .before .before .before .before .before .pre .1 .even))
     short-value-requires
     slice-write-column
-    add-k
-    loop-less
+    (λ c. omega arith)
+    (λ c. omega arith)
     loop-again
-    same-length
+    (λ c. c .before .loop .inv .2 .room)
     returns)

@@ -9,18 +9,6 @@ use Rattle.writing.proofs.RowLaws.{query-rows, count-small}
 use Rattle.writing.proofs.rows.put_queried.Statement.{statement}
 use Rattle.writing.proofs.rows.put_queried.Tie as tie
 
-count-requires : tie.Need-count-requires
-count-requires c κs = search needs
-
-narrow-requires : tie.Need-narrow-requires
-narrow-requires c κs = omega (arith, count-small _ _ (c .count .ensures) (c .before .before .before .pre .0))
-
-number-of-requires : tie.Need-number-of-requires
-number-of-requires c κs = search needs
-
-put-ok-two-requires : tie.Need-put-ok-two-requires
-put-ok-two-requires c κs = search needs
-
 put-field-requires : tie.Need-put-field-requires
 put-field-requires c κs = omega (arith, c .before .before .before .put-ok-two .ensures .short, c .before .before .before .put-ok-two .ensures .wrote .room)
 
@@ -47,9 +35,6 @@ put-rows-requires c κs = (
   refl,
 )
 
-same-length : tie.Need-same-length
-same-length c = search needs
-
 returns : tie.Need-returns
 returns c = query-rows _ _ _ _ _ _ _ _ _
     (c .before .before .before .before .before .before .before .before .before .before .before .before .before .before .before .before
@@ -75,11 +60,11 @@ pub put-queried-spec : {M : Type 1} → statement M
 put-queried-spec =
     tie.close
     (tie.spec
-    count-requires
-    narrow-requires
-    number-of-requires
-    put-ok-two-requires
+    (λ c κs. search needs)
+    (λ c κs. omega (arith, count-small _ _ (c .count .ensures) (c .before .before .before .pre .0)))
+    (λ c κs. search needs)
+    (λ c κs. search needs)
     put-field-requires
     put-rows-requires
-    same-length
+    (λ c. search needs)
     returns)

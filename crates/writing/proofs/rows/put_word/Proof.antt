@@ -13,12 +13,6 @@ Inv-loop out₀ start word base text at₀ x₀ out at x = Rowing out₀ out sta
 abbrev μ-loop : tie.MeasureT-loop
 μ-loop out₀ start word base text at₀ x₀ out at x = length (wordRows x base)
 
-loop-holds : tie.Need-loop-holds Inv-loop μ-loop
-loop-holds c = rowing-none _ _ _ _ (c .before .before .fits .word .fits)
-
-add-put-row : tie.Need-add-put-row Inv-loop μ-loop
-add-put-row c = omega (arith, row-lt _ _ _ _ _ _ _ (c .before .before .loop .inv) (c .before .loop-test .taken))
-
 put-row-requires : tie.Need-put-row-requires Inv-loop μ-loop
 put-row-requires c κs = let g = c .before .before .loop .inv in (
   omega (
@@ -35,9 +29,6 @@ put-row-requires c κs = let g = c .before .before .loop .inv in (
   c .before .before .before .before .before .pre .2,
 )
 
-sub-x : tie.Need-sub-x Inv-loop μ-loop
-sub-x c = omega arith
-
 loop-less : tie.Need-loop-less Inv-loop μ-loop
 loop-less c = row-less _ _ _ _ _ _ _ (c .before .before .before .before .before .loop .inv) (c .before .before .before .before .loop-test .taken)
 
@@ -46,23 +37,17 @@ loop-again c = rowing-step _ _ _ _ _ _ _ (c .before .before .before .before .bef
     (c .before .before .before .before .loop-test .taken) _ _ _
     (c .before .before .before .before .before .before .before .before .pre .0) refl (c .before .before .put-row .ensures)
 
-same-length : tie.Need-same-length Inv-loop μ-loop
-same-length c = c .before .loop .inv .room
-
-returns : tie.Need-returns Inv-loop μ-loop
-returns c = rowing-end _ _ _ _ _ _ _ (c .before .loop .inv) (c .loop-test .left)
-
 pub put-word-spec : {M : Type 1} → statement M
 put-word-spec =
     tie.close
     (tie.spec
     Inv-loop
     μ-loop
-    loop-holds
-    add-put-row
+    (λ c. rowing-none _ _ _ _ (c .before .before .fits .word .fits))
+    (λ c. omega (arith, row-lt _ _ _ _ _ _ _ (c .before .before .loop .inv) (c .before .loop-test .taken)))
     put-row-requires
-    sub-x
+    (λ c. omega arith)
     loop-less
     loop-again
-    same-length
-    returns)
+    (λ c. c .before .loop .inv .room)
+    (λ c. rowing-end _ _ _ _ _ _ _ (c .before .loop .inv) (c .loop-test .left)))
