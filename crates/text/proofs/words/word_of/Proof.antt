@@ -5,48 +5,25 @@ use Rattle.text.proofs.WordLaws.{here, past}
 use Rattle.text.proofs.words.word_of.Statement.{statement}
 use Rattle.text.proofs.words.word_of.Tie as tie
 
-returns : tie.Need-returns
-unfolding wordOf
-returns c = search (here, past) depth 30
-
-returns-2 : tie.Need-returns-2
-unfolding wordOf
-returns-2 c = search (here, past) depth 30
-
-returns-3 : tie.Need-returns-3
-unfolding wordOf
-returns-3 c = search (here, past) depth 30
-
-returns-4 : tie.Need-returns-4
-unfolding wordOf
-returns-4 c = search (here, past) depth 30
-
-returns-5 : tie.Need-returns-5
-unfolding wordOf
-returns-5 c = search (here, past) depth 30
-
-returns-6 : tie.Need-returns-6
-unfolding wordOf
-returns-6 c = search (here, past) depth 30
-
 pub word-of-spec : {M : Type 1} → statement M
+unfolding wordOf
 word-of-spec =
     tie.close
     (tie.spec
     (λ c. search needs)
     (λ c κs. search needs)
-    returns
+    (λ c. search (here, past) depth 30)
     (λ c. search needs)
     (λ c κs. search needs)
-    returns-2
+    (λ c. search (here, past) depth 30)
     (λ c. search needs)
     (λ c κs. search needs)
-    returns-3
+    (λ c. search (here, past) depth 30)
     (λ c. search needs)
     (λ c κs. search needs)
-    returns-4
+    (λ c. search (here, past) depth 30)
     (λ c. search needs)
     (λ c κs. search needs)
-    returns-5
+    (λ c. search (here, past) depth 30)
     (λ c κs. search needs)
-    returns-6)
+    (λ c. search (here, past) depth 30))
