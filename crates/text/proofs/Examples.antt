@@ -10,7 +10,7 @@ use Rattle.rules.specs.Calls.{create, begin, query, read, update, delete, inser
 use Rattle.text.specs.Bytes.{bytes, same}
 use Rattle.text.specs.Split.{before, split}
 use Rattle.text.specs.Number.{isDigit, allDigits, valueFrom, isNumber, number}
-use Rattle.text.specs.Parse.{withFirst, each, one, two, three, upTo254, small, holding, cellOf, both, column, wordCall, fieldsCall, longestLine, parse}
+use Rattle.text.specs.Parse.{withFirst, each, whenAll, andThen, noMore, upTo254, small, holding, cellOf, both, column, wordCall, fieldsCall, longestLine, parse}
 use Rattle.text.specs.Show.{decimalBy, decimal, spaced, show}
 use Rattle.text.specs.Lines.{allButLast, lastOf, lastLine, linesOf}
 
@@ -25,7 +25,7 @@ reads : map parse calls
     ≡ some (create 4 (some 1 ∷ some 2 ∷ some 0 ∷ some 1 ∷ [])) ∷ some (begin 0) ∷ some (update 0 0 3) ∷ some (commit 0)
     ∷ some (query 1 1 usualThreshold vectorWords) ∷ some (tidy 0 3) ∷ some (abort 1) ∷ some (insert 1 2) ∷ some (delete 15 2047) ∷ some (read 0 3)
     ∷ some (create 1 []) ∷ some (create 254 (none ∷ some 254 ∷ some 0 ∷ [])) ∷ []
-unfolding parse longestLine fieldsCall wordCall split before same one two three column both small upTo254 holding cellOf each withFirst number isNumber allDigits isDigit valueFrom
+unfolding parse longestLine fieldsCall wordCall split before same whenAll andThen noMore column both small upTo254 holding cellOf each withFirst number isNumber allDigits isDigit valueFrom
 reads = refl
 
 -- ---- lines that are none: empty, an unknown word, a missing or extra field, no number, more than one space, too large in a column
@@ -38,7 +38,7 @@ nones =
 
 unread : map parse nones
     ≡ none ∷ none ∷ none ∷ none ∷ none ∷ none ∷ none ∷ none ∷ none ∷ none ∷ none ∷ none ∷ none ∷ none ∷ none ∷ none ∷ none ∷ none ∷ none ∷ none ∷ none ∷ none ∷ none ∷ none ∷ []
-unfolding parse longestLine fieldsCall wordCall split before same one two three column both small upTo254 holding cellOf each withFirst number isNumber allDigits isDigit valueFrom
+unfolding parse longestLine fieldsCall wordCall split before same whenAll andThen noMore column both small upTo254 holding cellOf each withFirst number isNumber allDigits isDigit valueFrom
 unread = refl
 
 -- ---- answers

@@ -1,6 +1,6 @@
 -- Laws of bytes that are the same, and of the word that a field is.
 -- Assumes nothing.
-use mathlib.Core.Path.{_≡_, refl, sym, ap, _∙_}
+use mathlib.Core.Path.{_≡_, refl, sym, _∙_}
 use mathlib.Core.List.{List, [], _∷_}
 use mathlib.Core.Bool.{Bool, true, false}
 use Prim.Native.Nat.{ℕ}
@@ -9,7 +9,7 @@ use lib.Dec.{eqb}
 use Rattle.bits.specs.Cases.{same-truth}
 use Rattle.text.specs.declared.words.Word.{Word}
 use Rattle.text.specs.Bytes.{same}
-use Rattle.text.specs.Words.{orWord, arityOf}
+use Rattle.text.specs.Words.{orWord}
 use Rattle.text.proofs.NumberLaws.{both}
 
 -- ---- the same bytes
@@ -41,6 +41,3 @@ here r b w v e h = rw (sym e ∙ h)
 pub past : (r b : Bool) (w v u : Word) → r ≡ b → r ≡ false → w ≡ v → w ≡ orWord b u v
 unfolding orWord
 past r b w v u e h g = rw (sym e ∙ h) g
-
-pub takes : (w v : Word) → w ≡ v → arityOf v ≡ arityOf w
-takes w v e = ap arityOf (sym e)

@@ -1,6 +1,6 @@
 -- `text::requests::one_request` meets its contract. Assumes nothing.
 use borrow.Author.Needs.{needs}
-use Rattle.text.proofs.RequestLaws.{one-stuck, one-more, one-is}
+use Rattle.text.proofs.RequestLaws.{number-stuck, number-next, numbers-over, numbers-all}
 use Rattle.text.proofs.requests.one_request.Statement.{statement}
 use Rattle.text.proofs.requests.one_request.Tie as tie
 
@@ -10,7 +10,7 @@ one-request-spec =
     (tie.spec
     (λ c κs. search needs)
     (λ c κs. search needs)
-    (λ c. search one-stuck)
+    (λ c. search number-stuck)
     (λ c κs. search needs)
-    (λ c. search one-more)
-    (λ c. search one-is))
+    (λ c. search (number-next, numbers-over))
+    (λ c. search (number-next, numbers-all)))

@@ -1,6 +1,6 @@
 -- `text::requests::three_request` meets its contract. Assumes nothing.
 use borrow.Author.Needs.{needs}
-use Rattle.text.proofs.RequestLaws.{next-within, three-stuck, three-half, three-part, three-more, three-are}
+use Rattle.text.proofs.RequestLaws.{next-within, number-stuck, number-next, numbers-over, numbers-all}
 use Rattle.text.proofs.requests.three_request.Statement.{statement}
 use Rattle.text.proofs.requests.three_request.Tie as tie
 
@@ -10,13 +10,13 @@ three-request-spec =
     (tie.spec
     (λ c κs. search needs)
     (λ c κs. search needs)
-    (λ c. search three-stuck)
+    (λ c. search number-stuck)
     (λ c κs. search next-within)
     (λ c κs. search needs)
-    (λ c. search three-half)
+    (λ c. search (number-next, number-stuck))
     (λ c κs. next-within _ _ _ (c .before .before .number-at2 .ensures) (c .if2 .left))
     (λ c κs. search needs)
-    (λ c. search three-part)
+    (λ c. search (number-next, number-stuck))
     (λ c κs. search needs)
-    (λ c. search three-more)
-    (λ c. search three-are))
+    (λ c. search (number-next, numbers-over))
+    (λ c. search (number-next, numbers-all)))

@@ -1,6 +1,6 @@
 -- `text::requests::two_request` meets its contract. Assumes nothing.
 use borrow.Author.Needs.{needs}
-use Rattle.text.proofs.RequestLaws.{next-within, two-stuck, two-half, two-more, two-are}
+use Rattle.text.proofs.RequestLaws.{next-within, number-stuck, number-next, numbers-over, numbers-all}
 use Rattle.text.proofs.requests.two_request.Statement.{statement}
 use Rattle.text.proofs.requests.two_request.Tie as tie
 
@@ -10,10 +10,10 @@ two-request-spec =
     (tie.spec
     (λ c κs. search needs)
     (λ c κs. search needs)
-    (λ c. search two-stuck)
+    (λ c. search number-stuck)
     (λ c κs. search next-within)
     (λ c κs. search needs)
-    (λ c. search two-half)
+    (λ c. search (number-next, number-stuck))
     (λ c κs. search needs)
-    (λ c. search two-more)
-    (λ c. search two-are))
+    (λ c. search (number-next, numbers-over))
+    (λ c. search (number-next, numbers-all)))
