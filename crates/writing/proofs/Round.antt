@@ -49,7 +49,6 @@ four a b c d h i j k =
 
 -- what is written for a number below 10,000 is read as that number
 pub round-trip : (n : ℕ) → n < 10000 → number (decimal n) ≡ some n
-unfolding twoDigits fourDigits
 round-trip n h = go (lt-cases n 10) (lt-cases n 100) (lt-cases n 1000)
   where
     go : (n < 10) ⊎ (10 ≤ n) → (n < 100) ⊎ (100 ≤ n) → (n < 1000) ⊎ (1000 ≤ n) → number (decimal n) ≡ some n

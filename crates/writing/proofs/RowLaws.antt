@@ -122,11 +122,11 @@ rowing-none d start w base h = record { list-is = refl; place-is = refl; room = 
 
 module _ (entry out : List ℕ) (start at w base x : ℕ) (g : Rowing entry out start at w base x) where
   module _ (some : x ≡ 0 → ⊥) where
-    pub row-lt : trailingZeros 64 x < 64
-    row-lt = lowest-lt 64 x (g .low) some
+    pub row-lt : base + 64 ≤ 10000 → base + trailingZeros 64 x < 10000
+    row-lt b = omega (arith, lowest-lt 64 x (g .low) some)
 
-    pub row-room : at + 5 ≤ start + 320
-    row-room = omega (arith, g .left, ap length (word-first x base (g .low) some))
+    pub row-room : start + 320 ≤ length entry → at + 5 ≤ length out
+    row-room h = omega (arith, g .left, g .room, ap length (word-first x base (g .low) some))
 
     pub row-less : length (wordRows (bitAnd x (x - 1)) base) < length (wordRows x base)
     row-less = omega (arith, ap length (word-first x base (g .low) some))
@@ -141,7 +141,7 @@ module _ (entry out : List ℕ) (start at w base x : ℕ) (g : Rowing entry out 
           list-is = g .list-is ∙ rw (s, v .list-is, v .place-is) (sets-append (fieldOf n) (spaced rest) out at);
           place-is = g .place-is ∙ omega (arith, k, v .place-is);
           room = v .room ∙ g .room;
-          left = omega (arith, g .left, ap length s, row-far out f at n r v (omega (arith, row-lt)));
+          left = omega (arith, g .left, ap length s, row-far out f at n r v (omega (arith, row-lt b)));
           low = omega (arith, g .low, and-le-l x (x - 1));
         }
 
@@ -198,16 +198,15 @@ count-rows : (ws : List ℕ) → countOf ws ≡ length (rowsOf ws)
 unfolding countOf rowsOf
 count-rows ws = sym (length-rows (bitAt ws) (length ws * 64))
 
-pub query-rows : (ws d e f g : List ℕ) (flips due n j : ℕ) (t : Bool) (m k r : ℕ) → due ≡ cond t 1 0 → n ≡ j → j ≡ countOf ws → n < 2 ^ 32
-    → Answered d (ok (flips ∷ due ∷ [])) e m 24 → Wrote e m (fieldOf n) f k → (Wrote f k (spaced (rowsOf ws)) g r) × (r ≤ k + 320 * length ws)
+pub query-rows : (ws d e g : List ℕ) (flips due n j : ℕ) (t : Bool) (m r : ℕ) → due ≡ cond t 1 0 → n ≡ j → j ≡ countOf ws
+    → Answered d (ok (flips ∷ due ∷ n ∷ [])) e m 35 → (Wrote e m (spaced (rowsOf ws)) g r) × (r ≤ m + 320 * length ws)
     → Answered d (listed flips t (rowsOf ws)) g r (35 + 320 * length ws)
 unfolding show
-query-rows ws d e f g flips due n j t m k r p i q h u v w =
+query-rows ws d e g flips due n j t m r p i q u w =
     let c : n ≡ length (rowsOf ws) = i ∙ q ∙ count-rows ws in
-    let a : Wrote d 0 (show (ok (flips ∷ due ∷ n ∷ []))) f k = ok-then (flips ∷ due ∷ []) (n ∷ []) d e f m k (u .wrote) (rw (spaced-one n) v) in
     record {
-      wrote = rw (← c, ← p) (ok-then (flips ∷ due ∷ n ∷ []) (rowsOf ws) d f g k r a (w .0));
-      short = omega (arith, u .short, field-far e f m n k v h, w .1);
+      wrote = rw (← c, ← p) (ok-then (flips ∷ due ∷ n ∷ []) (rowsOf ws) d e g m r (u .wrote) (w .0));
+      short = omega (arith, u .short, w .1);
     }
 
 pub count-small : (ws : List ℕ) (n : ℕ) → n ≡ countOf ws → length ws ≤ 32 → n ≤ 2048

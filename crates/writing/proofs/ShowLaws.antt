@@ -56,11 +56,9 @@ decimal-fits (suc k) n h = go (lt-cases n 10) (decimal-fits k (n / 10) (shorter 
 
 module _ (n : ℕ) where
   pub decimal-2 : 10 ≤ n → n < 100 → decimal n ≡ twoDigits n
-  unfolding twoDigits
   decimal-2 l h = rw (decimal-more n l, decimal-digit (n / 10) (omega arith))
 
   pub decimal-3 : 100 ≤ n → n < 1000 → decimal n ≡ (48 + n / 100) ∷ twoDigits (n % 100)
-  unfolding twoDigits
   decimal-3 l h =
       let a : n / 10 / 10 ≡ n / 100 = omega arith in
       let b : n / 10 % 10 ≡ n % 100 / 10 = omega arith in
@@ -68,7 +66,6 @@ module _ (n : ℕ) where
       rw (decimal-more n (omega arith), decimal-more (n / 10) (omega arith), decimal-digit (n / 10 / 10) (omega arith), a, b, c)
 
   four-more : (l : List ℕ) → (((l ++ ((48 + n / 10 / 10 / 10 % 10) ∷ [])) ++ ((48 + n / 10 / 10 % 10) ∷ [])) ++ ((48 + n / 10 % 10) ∷ [])) ++ ((48 + n % 10) ∷ []) ≡ l ++ fourDigits (n % 10000)
-  unfolding fourDigits twoDigits
   four-more l =
       let a : n / 10 / 10 / 10 % 10 ≡ n % 10000 / 100 / 10 = omega arith in
       let b : n / 10 / 10 % 10 ≡ n % 10000 / 100 % 10 = omega arith in

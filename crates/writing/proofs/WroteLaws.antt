@@ -21,9 +21,6 @@ pub sets-append : (a b l : List ℕ) (i : ℕ) → sets l i (a ++ b) ≡ sets (s
 sets-append [] b l i = let e : i + 0 ≡ i = omega arith in rw e
 sets-append (x ∷ a) b l i = let e : i + suc (length a) ≡ suc i + length a = omega arith in rw e (sets-append a b (set l i x) (suc i))
 
-pub wrote-byte : (d : List ℕ) (at b : ℕ) → Wrote d at (b ∷ []) (set d at b) (at + 1)
-wrote-byte d at b = record { list-is = refl; place-is = omega arith; room = length-set d at b }
-
 pub wrote-then : (d a e b f : List ℕ) (at m n : ℕ) → Wrote d at a e m → Wrote e m b f n → Wrote d at (a ++ b) f n
 wrote-then d a e b f at m n u v =
     record {
@@ -36,7 +33,6 @@ wrote-then d a e b f at m n u v =
 
 pub wrote-two : (d e f : List ℕ) (at m n t a b r : ℕ) → t ≡ n / 10 → a ≡ 48 + t → b ≡ 48 + (n - 10 * t) → Wrote d at (a ∷ []) e m → Wrote e m (b ∷ []) f r
     → Wrote d at (twoDigits n) f r
-unfolding twoDigits
 wrote-two d e f at m n t a b r o p q u v =
     let x : a ≡ 48 + n / 10 = omega arith in
     let y : b ≡ 48 + n % 10 = omega arith in
@@ -49,7 +45,7 @@ pairs-length text e = ap length e ∙ length-tab pairByte 200
 
 pub wrote-pair : (d e f text : List ℕ) (at m n w i r : ℕ) → n < 100 → text ≡ pairs → w ≡ n → i ≡ 2 * w → Wrote d at (getD text i 0 ∷ []) e m
     → Wrote e m (getD text (i + 1) 0 ∷ []) f r → Wrote d at (twoDigits n) f r
-unfolding twoDigits pairs pairByte
+unfolding pairs pairByte
 wrote-pair d e f text at m n w i r h t p q u v =
     let k : i ≡ 2 * n = omega arith in
     let a : 2 * n % 2 ≡ 0 = omega arith in
@@ -61,7 +57,6 @@ wrote-pair d e f text at m n w i r h t p q u v =
     rw (← x, ← y) (wrote-then d (getD text i 0 ∷ []) e (getD text (i + 1) 0 ∷ []) f at m r u v)
 
 pub wrote-four : (d e f : List ℕ) (at m n r : ℕ) → Wrote d at (twoDigits (n / 100)) e m → Wrote e m (twoDigits (n % 100)) f r → Wrote d at (fourDigits n) f r
-unfolding fourDigits
 wrote-four d e f at m n r u v = wrote-then d (twoDigits (n / 100)) e (twoDigits (n % 100)) f at m r u v
 
 module _ (d f : List ℕ) (at n r : ℕ) where
@@ -81,13 +76,6 @@ module _ (d f : List ℕ) (at n r : ℕ) where
   number-large e m u v l = rw (decimal-large n l) (wrote-then d (decimal (n / 10000)) e (fourDigits (n % 10000)) f at m r u v)
 
 -- how far the place moves
-pub byte-far : (d f : List ℕ) (at b r : ℕ) → Wrote d at (b ∷ []) f r → r ≡ at + 1
-byte-far d f at b r w = w .place-is
-
-pub two-far : (d f : List ℕ) (at n r : ℕ) → Wrote d at (twoDigits n) f r → r ≡ at + 2
-unfolding twoDigits
-two-far d f at n r w = w .place-is
-
 pub number-far : (k : ℕ) (d f : List ℕ) (at n r : ℕ) → Wrote d at (decimal n) f r → n < 10 ^ suc k → r ≤ at + suc k
 number-far k d f at n r w h = omega (arith, w .place-is, decimal-fits k n h)
 
@@ -108,30 +96,32 @@ no-one d e f g m k n r h u v w =
       short = omega (arith, u .place-is, v .place-is, field-far f g k n r w h);
     }
 
-pub ok-none : (d e f : List ℕ) (m r : ℕ) → Wrote d 0 (111 ∷ []) e m → Wrote e m (107 ∷ []) f r → Wrote d 0 (show (ok [])) f r
+pub ok-none : (d e f : List ℕ) (m r : ℕ) → Wrote d 0 (111 ∷ []) e m → Wrote e m (107 ∷ []) f r → Answered d (ok []) f r 2
 unfolding show spaced
-ok-none d e f m r u v = wrote-then d (111 ∷ []) e (107 ∷ []) f 0 m r u v
-
-pub ok-far : (d f : List ℕ) (r : ℕ) → Wrote d 0 (show (ok [])) f r → r ≡ 2
-unfolding show spaced
-ok-far d f r w = w .place-is
+ok-none d e f m r u v =
+    let t : Wrote d 0 (bytes "ok") f r = wrote-then d (111 ∷ []) e (107 ∷ []) f 0 m r u v in
+    record { wrote = t; short = omega (arith, t .place-is) }
 
 -- `ok` and numbers, then more
 pub ok-then : (ns ms d e f : List ℕ) (m r : ℕ) → Wrote d 0 (show (ok ns)) e m → Wrote e m (spaced ms) f r → Wrote d 0 (show (ok (ns ++ ms))) f r
 ok-then ns ms d e f m r u v = rw (← ok-append ns ms) (wrote-then d (show (ok ns)) e (spaced ms) f 0 m r u v)
 
-pub ok-one : (d e f : List ℕ) (m n r : ℕ) → n < 2 ^ 32 → Wrote d 0 (show (ok [])) e m → Wrote e m (fieldOf n) f r → Answered d (ok (n ∷ [])) f r 13
-ok-one d e f m n r h u v =
-    record { wrote = ok-then [] (n ∷ []) d e f m r u (rw (spaced-one n) v); short = omega (arith, ok-far d e m u, field-far e f m n r v h) }
+-- and one number more
+pub ok-more : (ns ms d e f : List ℕ) (m n r k most : ℕ) → n < 2 ^ 32 → Answered d (ok ns) e m k → Wrote e m (fieldOf n) f r → ns ++ n ∷ [] ≡ ms
+    → k + 11 ≤ most → Answered d (ok ms) f r most
+ok-more ns ms d e f m n r k most h u v q l =
+    rw (← q)
+    record {
+      wrote = ok-then ns (n ∷ []) d e f m r (u .wrote) (rw (spaced-one n) v);
+      short = omega (arith, u .short, field-far e f m n r v h);
+    }
 
-pub ok-two : (d e f : List ℕ) (m a n r : ℕ) → n < 2 ^ 32 → Answered d (ok (a ∷ [])) e m 13 → Wrote e m (fieldOf n) f r → Answered d (ok (a ∷ n ∷ [])) f r 24
-ok-two d e f m a n r h u v =
-    record { wrote = ok-then (a ∷ []) (n ∷ []) d e f m r (u .wrote) (rw (spaced-one n) v); short = omega (arith, u .short, field-far e f m n r v h) }
-
-pub ok-dash : (d e f g : List ℕ) (m k r : ℕ) → Wrote d 0 (show (ok [])) e m → Wrote e m (32 ∷ []) f k → Wrote f k (45 ∷ []) g r → Answered d (value none) g r 4
+pub ok-dash : (d e f g : List ℕ) (m k r : ℕ) → Answered d (ok []) e m 2 → Wrote e m (32 ∷ []) f k → Wrote f k (45 ∷ []) g r
+    → Answered d (value none) g r 4
 unfolding show spaced
 ok-dash d e f g m k r u v w =
-    let t : Wrote d 0 (bytes "ok -") g r = wrote-then d (111 ∷ 107 ∷ []) e (32 ∷ 45 ∷ []) g 0 m r u (wrote-then e (32 ∷ []) f (45 ∷ []) g m k r v w) in
+    let t : Wrote d 0 (bytes "ok -") g r = wrote-then d (111 ∷ 107 ∷ []) e (32 ∷ 45 ∷ []) g 0 m r (u .wrote)
+    (wrote-then e (32 ∷ []) f (45 ∷ []) g m k r v w) in
     record { wrote = t; short = omega (arith, t .place-is) }
 
 -- an answer and its newline

@@ -63,8 +63,7 @@ pub fn put_queried(out: &mut [u8], flips: u32, due: bool, vector: &[u64]) -> usi
     ensures { λ r. ⌜ Answered (now (out .entry)) (listed flips due (rowsOf (now (vector .entry)))) (now (out .exit)) r (35 + 320 * length (now (vector .entry))) ⌝ }
 {
     let n = bits::narrow(bits::count(vector));
-    let head = answers::put_ok_two(out, flips, number_of(due));
-    let next = numbers::put_field(out, head, n);
+    let next = answers::put_ok_three(out, flips, number_of(due), n);
     let text =
         b"0001020304050607080910111213141516171819202122232425262728293031323334353637383940414243444546474849\
           5051525354555657585960616263646566676869707172737475767778798081828384858687888990919293949596979899";

@@ -1,7 +1,7 @@
 -- `answers::put_ok_one` meets its contract. Assumes nothing.
-use native.Mathlib.Omega.{arith}
+use mathlib.Core.Path.{refl}
 use borrow.Author.Needs.{needs}
-use Rattle.writing.proofs.WroteLaws.{ok-far, ok-one}
+use Rattle.writing.proofs.WroteLaws.{ok-more}
 use Rattle.writing.proofs.answers.put_ok_one.Statement.{statement}
 use Rattle.writing.proofs.answers.put_ok_one.Tie as tie
 
@@ -10,6 +10,6 @@ put-ok-one-spec =
     tie.close
     (tie.spec
     (λ c κs. search needs)
-    (λ c κs. omega (arith, ok-far _ _ _ (c .before .before .before .put-ok .ensures)))
+    (λ c κs. search needs)
     (λ c. search needs)
-    (λ c. search ok-one))
+    (λ c. search (ok-more, refl, needs)))

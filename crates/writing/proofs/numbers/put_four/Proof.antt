@@ -1,7 +1,6 @@
 -- `numbers::put_four` meets its contract. Assumes nothing.
-use native.Mathlib.Omega.{arith}
 use borrow.Author.Needs.{needs}
-use Rattle.writing.proofs.WroteLaws.{wrote-four, two-far}
+use Rattle.writing.proofs.WroteLaws.{wrote-four}
 use Rattle.writing.proofs.numbers.put_four.Statement.{statement}
 use Rattle.writing.proofs.numbers.put_four.Tie as tie
 
@@ -10,6 +9,6 @@ put-four-spec =
     tie.close
     (tie.spec
     (λ c κs. search needs)
-    (λ c κs. (omega arith, omega (arith, two-far _ _ _ _ _ (c .before .before .before .put-two .ensures))))
+    (λ c κs. search needs)
     (λ c. search needs)
     (λ c. search wrote-four))

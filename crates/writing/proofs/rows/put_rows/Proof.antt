@@ -14,31 +14,22 @@ Inv-loop out₀ start vector text at₀ i₀ out at i = (i ≤ length vector) ×
 abbrev μ-loop : tie.MeasureT-loop
 μ-loop out₀ start vector text at₀ i₀ out at i = length vector - i
 
-put-word-requires : tie.Need-put-word-requires Inv-loop μ-loop
-put-word-requires c κs = let g = c .before .before .before .before .loop .inv .1 in (
-  omega arith,
-  omega
-      (arith, g .far, g .wrote .room),
-  c .before .before .before .before .before .before .before .before .pre .2,
-)
-
-loop-again : tie.Need-loop-again Inv-loop μ-loop
-loop-again c = (omega arith, worded-step _ _ _ _ _ _ (c .before .before .before .before .before .before .before .loop .inv .1) _ _ _ _ refl (c .before .before .before .narrow .ensures) (c .before .before .put-word .ensures))
-
 pub put-rows-spec : {M : Type 1} → statement M
 put-rows-spec =
     tie.close
     (tie.spec
     Inv-loop
     μ-loop
-    (λ c. (omega arith, worded-none _ _ _))
+    (λ c. (search needs, worded-none _ _ _))
     (λ c. search needs)
     (λ c. search needs)
     (λ c. search needs)
     (λ c κs. search needs)
-    put-word-requires
+    (λ c κs. search needs)
     (λ c. search needs)
     (λ c. search needs)
-    loop-again
-    (λ c. c .before .loop .inv .1 .wrote .room)
+    (λ c.
+    let g = c .before .before .before .before .before .before .before .loop .inv .1 in
+    (omega arith, worded-step _ _ _ _ _ _ g _ _ _ _ refl (c .before .before .before .narrow .ensures) (c .before .before .put-word .ensures)))
+    (λ c. search needs)
     (λ c. worded-end _ _ _ _ _ _ (c .before .loop .inv .1) (omega arith)))
