@@ -1,7 +1,7 @@
 -- Laws of the code that gathers lines: blocks without a newline, bytes copied, and a line fed.
 -- Assumes nothing.
 use mathlib.Core.Path.{_≡_, refl, sym, ap, _∙_}
-use mathlib.Core.Bool.{Bool, true, false, _||_, or-false}
+use mathlib.Core.Bool.{Bool, true, false, _||_, or-false, or-assoc}
 use mathlib.Core.List.{List, [], _∷_, _++_, append-assoc, append-nil}
 use Prim.Native.Nat.{ℕ, zero, suc, _+_, _-_, _<_, _≤_, min}
 use native.Mathlib.Numerals.{add-one}
@@ -17,14 +17,10 @@ use Rattle.text.proofs.SplitLaws.{end-step, end-fits, end-past, take-pa
 
 -- ---- whether one of the bytes is s
 
-or-assoc : (a b c : Bool) → a || (b || c) ≡ (a || b) || c
-or-assoc true b c = refl
-or-assoc false b c = refl
-
 has-append : (s : ℕ) (a b : List ℕ) → hasByte s (a ++ b) ≡ hasByte s a || hasByte s b
 unfolding hasByte
 has-append s [] b = refl
-has-append s (x ∷ a) b = rw (has-append s a b) (or-assoc (eqb x s) (hasByte s a) (hasByte s b))
+has-append s (x ∷ a) b = rw (has-append s a b) (sym (or-assoc (eqb x s) (hasByte s a) (hasByte s b)))
 
 pub found-none : (s : ℕ) (l : List ℕ) → false ≡ hasByte s (take 0 l)
 unfolding hasByte

@@ -2,7 +2,7 @@
 -- Assumes nothing.
 use mathlib.Core.Path.{_≡_, refl, sym, _∙_}
 use mathlib.Core.List.{List, [], _∷_}
-use mathlib.Core.Bool.{Bool, true, false, cond, _&&_}
+use mathlib.Core.Bool.{Bool, true, false, cond, _&&_, and-eq-true-iff}
 use mathlib.Core.Option.{Option, none, some, Option·some-injective, Option·none-ne-some}
 use Prim.Native.Nat.{ℕ, zero, suc, _+_, _-_, _*_, _<_, _≤_}
 use native.Mathlib.Omega.{arith}
@@ -19,17 +19,13 @@ use Rattle.text.proofs.SplitLaws.{part-end, part-here, part-step, end-e
 
 -- ---- a digit
 
-pub both : (a b : Bool) → (a && b) ≡ true → (a ≡ true) × (b ≡ true)
-both true b h = (refl, h)
-both false b h = let z : _≡_ {A = ℕ} 0 1 = cc in absurd (omega arith)
-
 pub digit-low : (b : ℕ) → isDigit b ≡ true → 48 ≤ b
 unfolding isDigit
-digit-low b h = leb-true 48 b (both (leb 48 b) (leb b 57) h .0)
+digit-low b h = leb-true 48 b (and-eq-true-iff (leb 48 b) (leb b 57) .0 h .0)
 
 pub digit-high : (b : ℕ) → isDigit b ≡ true → b ≤ 57
 unfolding isDigit
-digit-high b h = leb-true b 57 (both (leb 48 b) (leb b 57) h .1)
+digit-high b h = leb-true b 57 (and-eq-true-iff (leb 48 b) (leb b 57) .0 h .1)
 
 pub digit-in : (b : ℕ) → 48 ≤ b → b ≤ 57 → isDigit b ≡ true
 unfolding isDigit

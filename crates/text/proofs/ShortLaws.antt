@@ -7,15 +7,14 @@ use mathlib.Core.Logic.{_⊎_, inl, inr}
 use mathlib.Core.Option.{some}
 use Prim.Native.Nat.{ℕ, zero, suc, _+_, _-_, _*_, _/_, _%_, _<_, _≤_}
 use native.Mathlib.Omega.{arith}
-use borrow.Author.Tests.{eq-eqb, ne-eqb, eqb-true, eqb-false, le-leb}
+use borrow.Author.Tests.{eq-eqb, ne-eqb, eqb-true}
 use lib.Dec.{leb, eqb}
 use lib.ListN.{length, getD, set}
 use Rattle.bits.specs.Cases.{eq-cases, lt-cases}
-use Rattle.text.specs.declared.fields.Field.{Field}
 use Rattle.text.specs.declared.cells.Cells.the-variants as cells
 use Rattle.text.specs.Split.{space}
 use Rattle.text.specs.Number.{isDigit}
-use Rattle.text.specs.Places.{partAt, after, found, tag, firstBy, fieldBy}
+use Rattle.text.specs.Places.{partAt, found, tag, firstBy, fieldBy}
 use Rattle.text.specs.Cells.{byteOf, Stored, Filling}
 use Rattle.text.specs.Short.{shortKnown, shortValue, turnedBytes, Turned, Short}
 use Rattle.text.proofs.SplitLaws.{part-end, part-here, part-step, after-step}

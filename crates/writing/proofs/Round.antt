@@ -16,7 +16,6 @@ use Rattle.text.specs.Split.{before, split, space}
 use Rattle.text.specs.Number.{isDigit, number}
 use Rattle.text.specs.Parse.{withFirst, each}
 use Rattle.text.specs.Show.{decimalBy, decimal, spaced, show}
-use Rattle.writing.specs.Wrote.{twoDigits, fourDigits}
 use Rattle.text.proofs.NumberLaws.{digitsFrom, number-first}
 use Rattle.writing.proofs.ShowLaws.{decimal-digit, decimal-2, decimal-3, decimal-4}
 

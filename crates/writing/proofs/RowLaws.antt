@@ -1,7 +1,7 @@
 -- Laws of the rows of a vector, a word at a time, and from one set bit of a word to the next.
 -- Assumes nothing.
 use mathlib.Core.Path.{_≡_, refl, sym, ap, ap₂, _∙_}
-use mathlib.Core.List.{List, [], _∷_, _++_, append-assoc, append-nil, map}
+use mathlib.Core.List.{List, [], _∷_, _++_, append-assoc, append-nil, map, map-append}
 use mathlib.Core.Bool.{Bool, true, false, cond, true≢false}
 use mathlib.Core.Logic.{_⊎_, inl, inr}
 use Prim.Native.Nat.{ℕ, zero, suc, _+_, _-_, _*_, _/_, _%_, _^_, _<_, _≤_, min}
@@ -21,14 +21,10 @@ use Rattle.bits.specs.Scan.{tz-bit}
 use Rattle.rules.specs.Calls.{ok, listed}
 use Rattle.text.specs.Show.{spaced, show}
 use Rattle.writing.specs.Wrote.{Wrote, Answered, fieldOf, wordRows}
-use Rattle.writing.proofs.ShowLaws.{decimal-fits, spaced-append, spaced-one}
-use Rattle.writing.proofs.WroteLaws.{sets-append, wrote-then, field-far, ok-then}
+use Rattle.writing.proofs.ShowLaws.{decimal-fits, spaced-append}
+use Rattle.writing.proofs.WroteLaws.{sets-append, wrote-then, ok-then}
 
 -- ---- rows in two parts
-
-map-append : (m : ℕ) (a b : List ℕ) → map (λ k. m + k) (a ++ b) ≡ map (λ k. m + k) a ++ map (λ k. m + k) b
-map-append m [] b = refl
-map-append m (x ∷ a) b = rw (map-append m a b)
 
 map-one : (m n : ℕ) (t : Bool) → map (λ k. m + k) (cond t (n ∷ []) []) ≡ cond t ((m + n) ∷ []) []
 map-one m n true = refl
@@ -38,7 +34,7 @@ pub rows-split : (f : ℕ → Bool) (m n : ℕ) → rowsBelow f (m + n) ≡ rows
 unfolding rowsBelow
 rows-split f m zero = rw (add-zero m, append-nil (rowsBelow f m))
 rows-split f m (suc n) =
-    rw (add-suc m n, map-append m (rowsBelow (λ k. f (m + k)) n) (cond (f (m + n)) (n ∷ []) []), map-one m n (f (m + n)))
+    rw (add-suc m n, map-append (λ k. m + k) (rowsBelow (λ k. f (m + k)) n) (cond (f (m + n)) (n ∷ []) []), map-one m n (f (m + n)))
     (ap (λ (l : List ℕ). l ++ cond (f (m + n)) ((m + n) ∷ []) []) (rows-split f m n)
     ∙ append-assoc (rowsBelow f m) (map (λ k. m + k) (rowsBelow (λ k. f (m + k)) n)) (cond (f (m + n)) ((m + n) ∷ []) []))
 

@@ -1,13 +1,13 @@
 -- Laws of bytes written one after another: digits, numbers, answers.
 -- Assumes nothing.
-use mathlib.Core.Path.{_≡_, refl, ap, _∙_}
+use mathlib.Core.Path.{_≡_, ap, _∙_}
 use mathlib.Core.List.{List, [], _∷_, _++_}
 use mathlib.Core.Option.{none}
 use Prim.Native.Nat.{ℕ, suc, _+_, _-_, _*_, _/_, _%_, _^_, _<_, _≤_}
 use native.Mathlib.Omega.{arith}
-use lib.ListN.{length, getD, set, length-append, length-set}
+use lib.ListN.{length, getD, set, length-append}
 use lib.Seq.{sets}
-use Rattle.bits.specs.Tab.{tab, length-tab, getD-tab}
+use Rattle.bits.specs.Tab.{length-tab, getD-tab}
 use Rattle.rules.specs.Calls.{Answer, refused, ok, value}
 use Rattle.text.specs.Bytes.{bytes}
 use Rattle.text.specs.Split.{newline}
