@@ -1,5 +1,5 @@
--- Chunking does not matter: two chunks are read as one, its lines are those of the input, and a buffer of one byte more than the longest line
--- holds enough of each.
+-- Chunking does not matter: two chunks are read as one, its lines are those of the input, and a buffer of one byte more than the longest
+-- line holds enough of each.
 -- Assumes nothing.
 use mathlib.Core.Path.{_≡_, refl, sym, ap, _∙_}
 use mathlib.Core.Bool.{Bool, true, false, cond}
@@ -56,7 +56,8 @@ front p (f ∷ fs) = (p ++ f) ∷ fs
 
 module _ (p : List ℕ) (b : ℕ) (l f : List ℕ) (fs : List (List ℕ)) (s : split newline l ≡ f ∷ fs) where
   cut-split-more : (t : Bool) → eqb b newline ≡ t → cut [] l ≡ allButLast (front [] (split newline l))
-      → cut (p ++ b ∷ []) l ≡ allButLast (front (p ++ b ∷ []) (split newline l)) → cut p (b ∷ l) ≡ allButLast (front p (split newline (b ∷ l)))
+      → cut (p ++ b ∷ []) l ≡ allButLast (front (p ++ b ∷ []) (split newline l))
+      → cut p (b ∷ l) ≡ allButLast (front p (split newline (b ∷ l)))
   unfolding cut split before front allButLast
   cut-split-more true e h k = rw (e, h, s, append-nil p)
   cut-split-more false e h k = rw (e, k, s, append-assoc)

@@ -126,7 +126,8 @@ module _ (line entry col : List ℕ) (start k at n : ℕ) (g : Filling line star
       }
 
   -- one cell more
-  pub filling-step : (r : Field) → r ≡ fieldBy byteOf line at → r .value ≤ 255 → Filling line start k entry (set col n (r .value)) (r .next) (n + 1)
+  pub filling-step : (r : Field) → r ≡ fieldBy byteOf line at → r .value ≤ 255
+      → Filling line start k entry (set col n (r .value)) (r .next) (n + 1)
   filling-step r e h = filling-on (set col n (r .value)) (r .next) (n + 1)
       record {
         more = omega arith;

@@ -52,8 +52,10 @@ digits-are zero x (b ∷ l) = go (isDigit b && allDigits l)
     go false = refl
 digits-are (suc left) x (b ∷ l) = go (isDigit b) (digits-are left (x * 10 + (b - 48)) l)
   where
-    go : (t : Bool) → digitsFrom left (x * 10 + (b - 48)) l ≡ cond (allDigits l && leb (length l) left) (some (valueFrom (x * 10 + (b - 48)) l)) none
-        → cond t (digitsFrom left (x * 10 + (b - 48)) l) none ≡ cond (t && allDigits l && leb (suc (length l)) (suc left)) (some (valueFrom (x * 10 + (b - 48)) l)) none
+    go : (t : Bool)
+        → digitsFrom left (x * 10 + (b - 48)) l ≡ cond (allDigits l && leb (length l) left) (some (valueFrom (x * 10 + (b - 48)) l)) none
+        → cond t (digitsFrom left (x * 10 + (b - 48)) l) none
+        ≡ cond (t && allDigits l && leb (suc (length l)) (suc left)) (some (valueFrom (x * 10 + (b - 48)) l)) none
     go true r = r ∙ rw (leb·suc-suc (length l) left)
     go false r = refl
 
@@ -62,7 +64,9 @@ pub number-first : (b : ℕ) (f : List ℕ) → number (b ∷ f) ≡ cond (isDig
 unfolding number isNumber allDigits valueFrom
 number-first b f = go (isDigit b)
   where
-    go : (t : Bool) → cond (t && allDigits f && (leb 1 (suc (length f)) && leb (suc (length f)) 4)) (some (valueFrom (0 * 10 + (b - 48)) f)) none ≡ cond t (digitsFrom 3 (b - 48) f) none
+    go : (t : Bool)
+        → cond (t && allDigits f && (leb 1 (suc (length f)) && leb (suc (length f)) 4)) (some (valueFrom (0 * 10 + (b - 48)) f)) none
+        ≡ cond t (digitsFrom 3 (b - 48) f) none
     go true =
         let z : 0 * 10 + (b - 48) ≡ b - 48 = omega arith in
         rw (z, le-leb 1 (suc (length f)) (omega arith), leb·suc-suc (length f) 3) (sym (digits-are 3 (b - 48) f))
@@ -92,7 +96,8 @@ unfolding digitsFrom
 digits-bad zero x b l h = refl
 digits-bad (suc left) x b l h = rw h
 
-digits-step : (left x b : ℕ) (l : List ℕ) → (left ≡ 0 → ⊥) → isDigit b ≡ true → digitsFrom left x (b ∷ l) ≡ digitsFrom (left - 1) (x * 10 + (b - 48)) l
+digits-step : (left x b : ℕ) (l : List ℕ) → (left ≡ 0 → ⊥) → isDigit b ≡ true
+    → digitsFrom left x (b ∷ l) ≡ digitsFrom (left - 1) (x * 10 + (b - 48)) l
 unfolding digitsFrom
 digits-step zero x b l n h = absurd (n refl)
 digits-step (suc left) x b l n h = let e : suc left - 1 ≡ left = omega arith in rw (h, e)
@@ -113,13 +118,15 @@ module _ (line : List ℕ) (left x i : ℕ) (w : Field) where
 
     pub on-bad : (r : Field) (d : Bool) → r ≡ nothing → d ≡ isDigit (getD line i 0) → d ≡ false → r ≡ w
     unfolding numberOn tag
-    on-bad r d q k u = q ∙ sym (v ∙ rw (part-step space line i h e, digits-bad left x (getD line i 0) (partAt space line (i + 1)) (sym k ∙ u)))
+    on-bad r d q k u =
+        q ∙ sym (v ∙ rw (part-step space line i h e, digits-bad left x (getD line i 0) (partAt space line (i + 1)) (sym k ∙ u)))
 
     pub on-step : (y : ℕ) (d : Bool) → (left ≡ 0 → ⊥) → d ≡ isDigit (getD line i 0) → d ≡ true → y ≡ getD line i 0 - 48
         → w ≡ numberOn (left - 1) (x * 10 + y) line (i + 1)
     unfolding numberOn
     on-step y d z k u m =
-        v ∙ rw (part-step space line i h e, digits-step left x (getD line i 0) (partAt space line (i + 1)) z (sym k ∙ u), ← m, end-step space line i h e)
+        let s = digits-step left x (getD line i 0) (partAt space line (i + 1)) z (sym k ∙ u) in
+        v ∙ rw (part-step space line i h e, s, ← m, end-step space line i h e)
 
 -- a digit is no space and no `-`
 pub digit-no-space : (b : ℕ) → isDigit b ≡ true → b ≡ 32 → ⊥
@@ -146,7 +153,8 @@ module _ (line : List ℕ) (i : ℕ) (d : Bool) (h : i < length line) (k : d ≡
 
 -- ---- a field after a place
 
-pub there : (say : List ℕ → Option ℕ) (line : List ℕ) (at : ℕ) (r : Field) → at + 1 < length line → r ≡ startBy say line (at + 1) → r ≡ fieldBy say line at
+pub there : (say : List ℕ → Option ℕ) (line : List ℕ) (at : ℕ) (r : Field) → at + 1 < length line → r ≡ startBy say line (at + 1)
+    → r ≡ fieldBy say line at
 unfolding fieldBy firstBy startBy endAt
 there say line at r h e = let l : at < length line = omega arith in e ∙ rw (after-step space line at l)
 
@@ -166,7 +174,8 @@ most (suc zero) = 999
 most (suc (suc zero)) = 99
 most (suc (suc (suc n))) = 9
 
-pub most-step : (left x y b : ℕ) (d : Bool) → left ≤ 3 → (left ≡ 0 → ⊥) → x ≤ most left → d ≡ isDigit b → d ≡ true → y ≡ b - 48 → x * 10 + y ≤ most (left - 1)
+pub most-step : (left x y b : ℕ) (d : Bool) → left ≤ 3 → (left ≡ 0 → ⊥) → x ≤ most left → d ≡ isDigit b → d ≡ true → y ≡ b - 48
+    → x * 10 + y ≤ most (left - 1)
 unfolding most
 most-step left x y b d l n h k u m = go left l n h (omega (arith, digit-high b (sym k ∙ u)))
   where

@@ -19,11 +19,13 @@ use Rattle.text.specs.declared.requests.Request.{Request}
 use Rattle.text.specs.Bytes.{bytes, same}
 use Rattle.text.specs.Split.{split, space}
 use Rattle.text.specs.Number.{number}
-use Rattle.text.specs.Parse.{withFirst, each, whenAll, andThen, noMore, one, two, three, upTo254, small, holding, cellOf, both, column, wordCall, fieldsCall, longestLine, parse}
+use Rattle.text.specs.Parse.{withFirst, each, whenAll, andThen, noMore, one, two, three, upTo254, small, holding, cellOf, both, column}
+use Rattle.text.specs.Parse.{wordCall, fieldsCall, longestLine, parse}
 use Rattle.text.specs.Places.{upTo, endAt, after}
 use Rattle.text.specs.Words.{orWord, laterWord, wordOf, arityOf}
 use Rattle.text.specs.Cells.{byteOf, orEnd, bytesOf}
-use Rattle.text.specs.Asked.{askedBy, asked, ifRead, columnBytes, fieldsBytes, lineBytes, Requested, ask, unreadable, orUnread, oneAsked, twoAsked, threeAsked, columnAsked, Columned}
+use Rattle.text.specs.Asked.{askedBy, asked, ifRead, columnBytes, fieldsBytes, lineBytes, Requested, ask, unreadable, orUnread}
+use Rattle.text.specs.Asked.{oneAsked, twoAsked, threeAsked, columnAsked, Columned}
 use Rattle.text.proofs.SplitLaws.{end-fits, take-first, split-start, size, size-split}
 use Rattle.text.proofs.ColumnLaws.{byte-some}
 
@@ -90,7 +92,8 @@ each-values [] = refl
 each-values (f ∷ fs) = rw (cell-valued f, each-values fs, first-values (byteOf f) (each byteOf fs))
 
 -- where each field is a value, they are all stored
-first-stored : (o : Option ℕ) (p : Option (List ℕ)) (l m : List ℕ) → ((k : List ℕ) → p ≡ some k → m ≡ k) → withFirst o p ≡ some l → orEnd o m ≡ l
+first-stored : (o : Option ℕ) (p : Option (List ℕ)) (l m : List ℕ) → ((k : List ℕ) → p ≡ some k → m ≡ k) → withFirst o p ≡ some l
+    → orEnd o m ≡ l
 unfolding withFirst orEnd
 first-stored none p l m h e = cc
 first-stored (some x) none l m h e = cc
@@ -102,7 +105,8 @@ all-stored [] l e = cc
 all-stored (f ∷ fs) l e = first-stored (byteOf f) (each byteOf fs) l (bytesOf fs) (λ k q. all-stored fs k q) e
 
 -- a value takes two bytes or more
-byte-size : (o : Option ℕ) (f l : List ℕ) (n : ℕ) → ((x : ℕ) → o ≡ some x → 1 ≤ length f) → 2 * length l ≤ n → 2 * length (orEnd o l) ≤ length f + 1 + n
+byte-size : (o : Option ℕ) (f l : List ℕ) (n : ℕ) → ((x : ℕ) → o ≡ some x → 1 ≤ length f) → 2 * length l ≤ n
+    → 2 * length (orEnd o l) ≤ length f + 1 + n
 unfolding orEnd
 byte-size none f l n h k = omega arith
 byte-size (some x) f l n h k = omega (arith, h x refl)
@@ -128,7 +132,8 @@ unfolding asked askedBy
 unread-fits d = record { means = refl; within = λ e. omega arith }
 
 module _ (d : List ℕ) where
-  fits-all : (m : List ℕ → Option Request) (k : List ℕ → Option Call) → ((l : List ℕ) → Fits (orUnread (m l)) d (k l)) → (o : Option (List ℕ))
+  fits-all : (m : List ℕ → Option Request) (k : List ℕ → Option Call) → ((l : List ℕ) → Fits (orUnread (m l)) d (k l))
+      → (o : Option (List ℕ))
       → Fits (orUnread (whenAll m o)) d (whenAll k o)
   unfolding whenAll orUnread
   fits-all m k h none = unread-fits d
@@ -141,7 +146,8 @@ module _ (d : List ℕ) where
   fits-then m k h (a ∷ l) = h a l
 
   module _ (w : Word) (other : arityOf w < 4) where
-    fits-end : (a b c : ℕ) (call : Call) → askedBy w a b c d ≡ some call → (l : List ℕ) → Fits (orUnread (noMore (ask w a b c) l)) d (noMore call l)
+    fits-end : (a b c : ℕ) (call : Call) → askedBy w a b c d ≡ some call → (l : List ℕ)
+        → Fits (orUnread (noMore (ask w a b c) l)) d (noMore call l)
     unfolding asked arityOf noMore orUnread
     fits-end a b c call e [] = record { means = e; within = λ q. absurd (omega (arith, ap arityOf q)) }
     fits-end a b c call e (x ∷ l) = unread-fits d
@@ -171,7 +177,8 @@ fits-both (some c) (some l) m d h k =
       within = λ q. omega (arith, length-sets d 0 m, ap length e);
     }
 
-fits-column : (fs : List (List ℕ)) (d : List ℕ) → size fs ≤ 2 * length d → Fits (columnAsked fs) (sets d 0 (columnBytes fs)) (column create cellOf fs)
+fits-column : (fs : List (List ℕ)) (d : List ℕ) → size fs ≤ 2 * length d
+    → Fits (columnAsked fs) (sets d 0 (columnBytes fs)) (column create cellOf fs)
 unfolding column columnBytes orUnread size
 fits-column [] d h = unread-fits d
 fits-column (c ∷ vs) d h =
@@ -181,7 +188,10 @@ fits-column (c ∷ vs) d h =
 
 unfoldable pub byArity : ℕ → Word → List (List ℕ) → Request
 byArity n w fs =
-    cond (eqb n 1) (oneAsked w fs) (cond (eqb n 2) (twoAsked w fs) (cond (eqb n 3) (threeAsked w fs) (cond (eqb n 4) (columnAsked fs) unreadable)))
+    cond (eqb n 1) (oneAsked w fs) (
+    cond (eqb n 2) (twoAsked w fs) (
+    cond (eqb n 3) (threeAsked w fs) (
+    cond (eqb n 4) (columnAsked fs) unreadable)))
 
 unfoldable pub bytesBy : ℕ → List (List ℕ) → List ℕ
 bytesBy n fs = cond (eqb n 4) (columnBytes fs) []
@@ -200,11 +210,13 @@ word-bytes : (f : List ℕ) (fs : List (List ℕ)) → bytesBy (arityOf (wordOf 
 unfolding wordOf laterWord arityOf bytesBy
 word-bytes f fs = simp (or-bytes, either)
 
-fits-word : (w : Word) (fs : List (List ℕ)) (d : List ℕ) → size fs ≤ 2 * length d → Fits (byArity (arityOf w) w fs) (sets d 0 (bytesBy (arityOf w) fs)) (callOf w fs)
+fits-word : (w : Word) (fs : List (List ℕ)) (d : List ℕ) → size fs ≤ 2 * length d
+    → Fits (byArity (arityOf w) w fs) (sets d 0 (bytesBy (arityOf w) fs)) (callOf w fs)
 unfolding byArity bytesBy arityOf callOf askedBy
 fits-word word.Column fs d h = fits-column fs d h
 fits-word word.Begin fs d h = fits-one d word.Begin (omega arith) begin (λ a. refl) (each number fs)
-fits-word word.Query fs d h = fits-two d word.Query (omega arith) (λ i v. query i v usualThreshold vectorWords) (λ a b. refl) (each number fs)
+fits-word word.Query fs d h =
+    fits-two d word.Query (omega arith) (λ i v. query i v usualThreshold vectorWords) (λ a b. refl) (each number fs)
 fits-word word.Read fs d h = fits-two d word.Read (omega arith) read (λ a b. refl) (each number fs)
 fits-word word.Update fs d h = fits-three d word.Update (omega arith) update (λ a b c. refl) (each number fs)
 fits-word word.Delete fs d h = fits-two d word.Delete (omega arith) delete (λ a b. refl) (each number fs)
@@ -227,15 +239,15 @@ line-long line entry r h e =
 
 module _ (line entry : List ℕ) (at n : ℕ) (w : Word) (short : length line ≤ 8192) (room : length line ≤ 2 * length entry)
     (a : at ≡ endAt space line 0) (e : w ≡ wordOf (take at line)) (k : n ≡ arityOf w) where
-  by-arity : (exit : List ℕ) (r : Request) → r ≡ byArity n w (after space line at) → exit ≡ sets entry 0 (bytesBy n (after space line at)) → Requested line entry exit r
+  by-arity : (exit : List ℕ) (r : Request) → r ≡ byArity n w (after space line at) → exit ≡ sets entry 0 (bytesBy n (after space line at))
+      → Requested line entry exit r
   unfolding parse lineBytes fieldsCall fieldsBytes longestLine size
   by-arity exit r q c =
       let fs = after space line at in
       let wo : w ≡ wordOf (upTo space line) = e ∙ rw (take-first space line at a) in
       let s : split space line ≡ upTo space line ∷ fs = split-start space line at a in
       let sz : length line + 1 ≡ size (upTo space line ∷ fs) = sym (size-split space line) ∙ ap size s in
-      let f : Fits (byArity (arityOf w) w fs) (sets entry 0 (bytesBy (arityOf w) fs)) (callOf w fs) = fits-word w fs entry (omega (arith, sz)) in
-      let g : Fits r exit (callOf w fs) = rw (q, c, k) f in
+      let g : Fits r exit (callOf w fs) = rw (q, c, k) (fits-word w fs entry (omega (arith, sz))) in
       record {
         means = g .means ∙ rw (le-leb (length line) 8192 short, s, wo, word-call (upTo space line) fs);
         bytes-are = c ∙ rw (le-leb (length line) 8192 short, s, k, wo, word-bytes (upTo space line) fs);

@@ -41,7 +41,8 @@ unfolding digitsFrom
 three a b c h i j =
     rw (number-first (48 + a) ((48 + b) ∷ (48 + c) ∷ []), digit-is a h, digit-is b i, digit-is c j, digit-says a, digit-says b, digit-says c)
 
-four : (a b c d : ℕ) → a < 10 → b < 10 → c < 10 → d < 10 → number ((48 + a) ∷ (48 + b) ∷ (48 + c) ∷ (48 + d) ∷ []) ≡ some (((a * 10 + b) * 10 + c) * 10 + d)
+four : (a b c d : ℕ) → a < 10 → b < 10 → c < 10 → d < 10
+    → number ((48 + a) ∷ (48 + b) ∷ (48 + c) ∷ (48 + d) ∷ []) ≡ some (((a * 10 + b) * 10 + c) * 10 + d)
 unfolding digitsFrom
 four a b c d h i j k =
     rw (number-first (48 + a) ((48 + b) ∷ (48 + c) ∷ (48 + d) ∷ []), digit-is a h, digit-is b i, digit-is c j, digit-is d k, digit-says a, digit-says b, digit-says c, digit-says d)

@@ -66,7 +66,8 @@ lowest (suc n) x h p = go (x % 2) refl (omega arith) (lowest n (x / 2) (half (rw
         let b : bitAnd x (x - 1) / 2 ≡ h = omega arith in
         rows-step (bitAnd x (x - 1)) n ∙ rw (a, b)
 
-    go : (d : ℕ) → x % 2 ≡ d → d < 2 → (0 < x / 2 → rowsBelow (bit (x / 2)) n ≡ trailingZeros n (x / 2) ∷ rowsBelow (bit (bitAnd (x / 2) (x / 2 - 1))) n)
+    go : (d : ℕ) → x % 2 ≡ d → d < 2
+        → (0 < x / 2 → rowsBelow (bit (x / 2)) n ≡ trailingZeros n (x / 2) ∷ rowsBelow (bit (bitAnd (x / 2) (x / 2 - 1))) n)
         → rowsBelow (bit x) (suc n) ≡ under d (trailingZeros n (x / 2)) ∷ rowsBelow (bit (bitAnd x (x - 1))) (suc n)
     go zero e l ih =
         let a : (x - 1) / 2 ≡ x / 2 - 1 = omega arith in
@@ -127,7 +128,8 @@ module _ (entry out : List ℕ) (start at w base x : ℕ) (g : Rowing entry out 
     pub row-less : length (wordRows (bitAnd x (x - 1)) base) < length (wordRows x base)
     row-less = omega (arith, ap length (word-first x base (g .low) some))
 
-    pub rowing-step : (n r : ℕ) (f : List ℕ) → base + 64 ≤ 10000 → n ≡ base + trailingZeros 64 x → Wrote out at (fieldOf n) f r → Rowing entry f start r w base (bitAnd x (x - 1))
+    pub rowing-step : (n r : ℕ) (f : List ℕ) → base + 64 ≤ 10000 → n ≡ base + trailingZeros 64 x → Wrote out at (fieldOf n) f r
+        → Rowing entry f start r w base (bitAnd x (x - 1))
     unfolding spaced
     rowing-step n r f b e v =
         let rest = wordRows (bitAnd x (x - 1)) base in
@@ -173,7 +175,8 @@ worded-none ws entry start =
     record { wrote = record { list-is = refl; place-is = omega arith; room = refl }; far = omega arith }
 
 module _ (ws entry out : List ℕ) (start at i : ℕ) (g : Worded ws entry out start at i) where
-  pub worded-step : (w base r : ℕ) (f : List ℕ) → w ≡ getD ws i 0 → base ≡ i * 64 → (Wrote out at (spaced (wordRows w base)) f r) × (r ≤ at + 320)
+  pub worded-step : (w base r : ℕ) (f : List ℕ) → w ≡ getD ws i 0 → base ≡ i * 64
+      → (Wrote out at (spaced (wordRows w base)) f r) × (r ≤ at + 320)
       → Worded ws entry f start r (i + 1)
   worded-step w base r f e b v =
       let u : Wrote out at (spaced (wordRows (getD ws i 0) (i * 64))) f r = rw (e, b) at (v .0) in

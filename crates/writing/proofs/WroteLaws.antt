@@ -31,7 +31,8 @@ wrote-then d a e b f at m n u v =
 
 -- ---- digits
 
-pub wrote-two : (d e f : List ℕ) (at m n t a b r : ℕ) → t ≡ n / 10 → a ≡ 48 + t → b ≡ 48 + (n - 10 * t) → Wrote d at (a ∷ []) e m → Wrote e m (b ∷ []) f r
+pub wrote-two : (d e f : List ℕ) (at m n t a b r : ℕ) → t ≡ n / 10 → a ≡ 48 + t → b ≡ 48 + (n - 10 * t) → Wrote d at (a ∷ []) e m
+    → Wrote e m (b ∷ []) f r
     → Wrote d at (twoDigits n) f r
 wrote-two d e f at m n t a b r o p q u v =
     let x : a ≡ 48 + n / 10 = omega arith in
@@ -56,7 +57,8 @@ wrote-pair d e f text at m n w i r h t p q u v =
     let y : getD text (i + 1) 0 ≡ 48 + n % 10 = rw (t, k) (getD-tab pairByte 200 (2 * n + 1) 0 (omega arith) ∙ rw (b, g)) in
     rw (← x, ← y) (wrote-then d (getD text i 0 ∷ []) e (getD text (i + 1) 0 ∷ []) f at m r u v)
 
-pub wrote-four : (d e f : List ℕ) (at m n r : ℕ) → Wrote d at (twoDigits (n / 100)) e m → Wrote e m (twoDigits (n % 100)) f r → Wrote d at (fourDigits n) f r
+pub wrote-four : (d e f : List ℕ) (at m n r : ℕ) → Wrote d at (twoDigits (n / 100)) e m → Wrote e m (twoDigits (n % 100)) f r
+    → Wrote d at (fourDigits n) f r
 wrote-four d e f at m n r u v = wrote-then d (twoDigits (n / 100)) e (twoDigits (n % 100)) f at m r u v
 
 module _ (d f : List ℕ) (at n r : ℕ) where
@@ -66,13 +68,15 @@ module _ (d f : List ℕ) (at n r : ℕ) where
   pub number-2 : Wrote d at (twoDigits n) f r → 10 ≤ n → n < 100 → Wrote d at (decimal n) f r
   number-2 w l h = rw (decimal-2 n l h) w
 
-  pub number-3 : (e : List ℕ) (m b : ℕ) → b ≡ 48 + n / 100 → Wrote d at (b ∷ []) e m → Wrote e m (twoDigits (n % 100)) f r → 100 ≤ n → n < 1000 → Wrote d at (decimal n) f r
+  pub number-3 : (e : List ℕ) (m b : ℕ) → b ≡ 48 + n / 100 → Wrote d at (b ∷ []) e m → Wrote e m (twoDigits (n % 100)) f r → 100 ≤ n
+      → n < 1000 → Wrote d at (decimal n) f r
   number-3 e m b q u v l h = rw (decimal-3 n l h, ← q) (wrote-then d (b ∷ []) e (twoDigits (n % 100)) f at m r u v)
 
   pub number-4 : Wrote d at (fourDigits n) f r → 1000 ≤ n → n < 10000 → Wrote d at (decimal n) f r
   number-4 w l h = rw (decimal-4 n l h) w
 
-  pub number-large : (e : List ℕ) (m : ℕ) → Wrote d at (decimal (n / 10000)) e m → Wrote e m (fourDigits (n % 10000)) f r → 10000 ≤ n → Wrote d at (decimal n) f r
+  pub number-large : (e : List ℕ) (m : ℕ) → Wrote d at (decimal (n / 10000)) e m → Wrote e m (fourDigits (n % 10000)) f r → 10000 ≤ n
+      → Wrote d at (decimal n) f r
   number-large e m u v l = rw (decimal-large n l) (wrote-then d (decimal (n / 10000)) e (fourDigits (n % 10000)) f at m r u v)
 
 -- how far the place moves
@@ -88,7 +92,8 @@ field-far d f at n r w h = omega (arith, w .place-is, decimal-fits 9 n (omega ar
 pub wrote-field : (d e f : List ℕ) (at m n r : ℕ) → Wrote d at (32 ∷ []) e m → Wrote e m (decimal n) f r → Wrote d at (fieldOf n) f r
 wrote-field d e f at m n r u v = wrote-then d (32 ∷ []) e (decimal n) f at m r u v
 
-pub no-one : (d e f g : List ℕ) (m k n r : ℕ) → n < 2 ^ 32 → Wrote d 0 (110 ∷ []) e m → Wrote e m (111 ∷ []) f k → Wrote f k (fieldOf n) g r → Answered d (refused n) g r 13
+pub no-one : (d e f g : List ℕ) (m k n r : ℕ) → n < 2 ^ 32 → Wrote d 0 (110 ∷ []) e m → Wrote e m (111 ∷ []) f k
+    → Wrote f k (fieldOf n) g r → Answered d (refused n) g r 13
 unfolding show
 no-one d e f g m k n r h u v w =
     record {
@@ -103,11 +108,13 @@ ok-none d e f m r u v =
     record { wrote = t; short = omega (arith, t .place-is) }
 
 -- `ok` and numbers, then more
-pub ok-then : (ns ms d e f : List ℕ) (m r : ℕ) → Wrote d 0 (show (ok ns)) e m → Wrote e m (spaced ms) f r → Wrote d 0 (show (ok (ns ++ ms))) f r
+pub ok-then : (ns ms d e f : List ℕ) (m r : ℕ) → Wrote d 0 (show (ok ns)) e m → Wrote e m (spaced ms) f r
+    → Wrote d 0 (show (ok (ns ++ ms))) f r
 ok-then ns ms d e f m r u v = rw (← ok-append ns ms) (wrote-then d (show (ok ns)) e (spaced ms) f 0 m r u v)
 
 -- and one number more
-pub ok-more : (ns ms d e f : List ℕ) (m n r k most : ℕ) → n < 2 ^ 32 → Answered d (ok ns) e m k → Wrote e m (fieldOf n) f r → ns ++ n ∷ [] ≡ ms
+pub ok-more : (ns ms d e f : List ℕ) (m n r k most : ℕ) → n < 2 ^ 32 → Answered d (ok ns) e m k → Wrote e m (fieldOf n) f r
+    → ns ++ n ∷ [] ≡ ms
     → k + 11 ≤ most → Answered d (ok ms) f r most
 ok-more ns ms d e f m n r k most h u v q l =
     rw (← q)
@@ -125,5 +132,6 @@ ok-dash d e f g m k r u v w =
     record { wrote = t; short = omega (arith, t .place-is) }
 
 -- an answer and its newline
-pub answer-line : (a : Answer) (d e f : List ℕ) (n r most : ℕ) → Answered d a e n most → Wrote e n (newline ∷ []) f r → Wrote d 0 (show a ++ newline ∷ []) f r
+pub answer-line : (a : Answer) (d e f : List ℕ) (n r most : ℕ) → Answered d a e n most → Wrote e n (newline ∷ []) f r
+    → Wrote d 0 (show a ++ newline ∷ []) f r
 answer-line a d e f n r most u v = wrote-then d (show a) e (newline ∷ []) f 0 n r (u .wrote) v

@@ -10,7 +10,8 @@ use Rattle.text.proofs.cells.short_into.Statement.{statement}
 use Rattle.text.proofs.cells.short_into.Tie as tie
 
 abbrev Inv-loop : tie.InvT-loop
-Inv-loop line start column₀ m k₀ column k = (k ≤ m) × (m ≡ (length line - start) / 2) × Filling line start 0 column₀ column (start + 2 * k) k
+Inv-loop line start column₀ m k₀ column k =
+    (k ≤ m) × (m ≡ (length line - start) / 2) × Filling line start 0 column₀ column (start + 2 * k) k
 
 abbrev μ-loop : tie.MeasureT-loop
 μ-loop line start column₀ m k₀ column k = m - k

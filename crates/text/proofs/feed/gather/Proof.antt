@@ -9,7 +9,8 @@ use Rattle.text.proofs.feed.gather.Statement.{statement}
 use Rattle.text.proofs.feed.gather.Tie as tie
 
 copy-at-requires : tie.Need-copy-at-requires
-copy-at-requires c κs = omega (arith, length-take (c .before .before .smaller .result) (c .before .before .before .before .before .args .part .now))
+copy-at-requires c κs =
+    omega (arith, length-take (c .before .before .smaller .result) (c .before .before .before .before .before .args .part .now))
 
 pub gather-spec : {M : Type 1} → statement M
 gather-spec =
