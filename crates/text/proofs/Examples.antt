@@ -20,7 +20,8 @@ use Rattle.text.specs.Lines.{allButLast, lastOf, lastLine, linesOf}
 abbrev calls : List (List ℕ)
 calls =
     bytes "column 4 1 2 0 1" ∷ bytes "begin 0" ∷ bytes "update 0 0 3" ∷ bytes "commit 0" ∷ bytes "query 1 1" ∷ bytes "tidy 0 3"
-    ∷ bytes "abort 1" ∷ bytes "insert 1 2" ∷ bytes "delete 15 2047" ∷ bytes "read 0 0003" ∷ bytes "column 1" ∷ bytes "column 254 - 254 0" ∷ []
+    ∷ bytes "abort 1" ∷ bytes "insert 1 2" ∷ bytes "delete 15 2047" ∷ bytes "read 0 0003" ∷ bytes "column 1"
+    ∷ bytes "column 254 - 254 0" ∷ []
 
 reads : map parse calls
     ≡ some (create 4 (some 1 ∷ some 2 ∷ some 0 ∷ some 1 ∷ [])) ∷ some (begin 0) ∷ some (update 0 0 3) ∷ some (commit 0)
@@ -36,7 +37,8 @@ reads = refl
 abbrev nones : List (List ℕ)
 nones =
     bytes "" ∷ bytes " " ∷ bytes "start 0" ∷ bytes "Begin 0" ∷ bytes "beginn 0" ∷ bytes "begin" ∷ bytes "begin 0 1" ∷ bytes "update 0 1"
-    ∷ bytes "begin x" ∷ bytes "begin -" ∷ bytes "begin 00001" ∷ bytes "begin +1" ∷ bytes "begin  0" ∷ bytes " begin 0" ∷ bytes "begin 0 " ∷ bytes "begin\t0" ∷ bytes "begin 0\r"
+    ∷ bytes "begin x" ∷ bytes "begin -" ∷ bytes "begin 00001" ∷ bytes "begin +1" ∷ bytes "begin  0" ∷ bytes " begin 0"
+    ∷ bytes "begin 0 " ∷ bytes "begin\t0" ∷ bytes "begin 0\r"
     ∷ bytes "column" ∷ bytes "column -" ∷ bytes "column 255" ∷ bytes "column 1 255" ∷ bytes "column 1 0 --" ∷ bytes "column 1 0 "
     ∷ bytes "column 1 0 1x" ∷ []
 

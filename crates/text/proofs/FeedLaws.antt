@@ -37,7 +37,7 @@ found-all s l i t e h = e ∙ rw (take-all i l h)
 
 -- ---- a block without it
 
-or-none : (a b : Bool) → a || b ≡ false → (a ≡ false) × (b ≡ false)
+pub or-none : (a b : Bool) → a || b ≡ false → (a ≡ false) × (b ≡ false)
 or-none true b h = (h, cc)
 or-none false b h = (refl, h)
 

@@ -19,8 +19,8 @@ use Rattle.text.specs.declared.requests.Request.{Request}
 use Rattle.text.specs.Bytes.{bytes, same}
 use Rattle.text.specs.Split.{split, space}
 use Rattle.text.specs.Number.{number}
-use Rattle.text.specs.Parse.{withFirst, each, whenAll, andThen, noMore, one, two, three, upTo254, small, holding, cellOf, both, column}
-use Rattle.text.specs.Parse.{wordCall, fieldsCall, longestLine, parse}
+use Rattle.text.specs.Parse.{withFirst, each, whenAll, andThen, noMore, one, two, three, upTo254, small, holding, cellOf}
+use Rattle.text.specs.Parse.{both, column, wordCall, fieldsCall, longestLine, parse}
 use Rattle.text.specs.Places.{upTo, endAt, after}
 use Rattle.text.specs.Words.{orWord, laterWord, wordOf, arityOf}
 use Rattle.text.specs.Cells.{byteOf, orEnd, bytesOf}

@@ -134,7 +134,8 @@ module _ (entry out : List ℕ) (start at w base x : ℕ) (g : Rowing entry out 
     rowing-step n r f b e v =
         let rest = wordRows (bitAnd x (x - 1)) base in
         let s : wordRows x base ≡ n ∷ rest = word-first x base (g .low) some ∙ rw e in
-        let k : length (spaced (wordRows x base)) ≡ length (fieldOf n) + length (spaced rest) = ap (λ (l : List ℕ). length (spaced l)) s ∙ length-append (fieldOf n) (spaced rest) in
+        let k : length (spaced (wordRows x base)) ≡ length (fieldOf n) + length (spaced rest)
+        = ap (λ (l : List ℕ). length (spaced l)) s ∙ length-append (fieldOf n) (spaced rest) in
         record {
           list-is = g .list-is ∙ rw (s, v .list-is, v .place-is) (sets-append (fieldOf n) (spaced rest) out at);
           place-is = g .place-is ∙ omega (arith, k, v .place-is);
@@ -179,11 +180,13 @@ module _ (ws entry out : List ℕ) (start at i : ℕ) (g : Worded ws entry out s
       → (Wrote out at (spaced (wordRows w base)) f r) × (r ≤ at + 320)
       → Worded ws entry f start r (i + 1)
   worded-step w base r f e b v =
-      let u : Wrote out at (spaced (wordRows (getD ws i 0) (i * 64))) f r = rw (e, b) at (v .0) in
+      let before = rowsBelow (bitAt ws) (i * 64) in
+      let word = wordRows (getD ws i 0) (i * 64) in
+      let u : Wrote out at (spaced word) f r = rw (e, b) at (v .0) in
       record {
         wrote =
-            rw (word-all ws i, spaced-append (rowsBelow (bitAt ws) (i * 64)) (wordRows (getD ws i 0) (i * 64)))
-            (wrote-then entry (spaced (rowsBelow (bitAt ws) (i * 64))) out (spaced (wordRows (getD ws i 0) (i * 64))) f start at r (g .wrote) u);
+            rw (word-all ws i, spaced-append before word)
+            (wrote-then entry (spaced before) out (spaced word) f start at r (g .wrote) u);
         far = omega (arith, g .far, v .1);
       }
 

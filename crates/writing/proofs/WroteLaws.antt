@@ -13,7 +13,8 @@ use Rattle.text.specs.Bytes.{bytes}
 use Rattle.text.specs.Split.{newline}
 use Rattle.text.specs.Show.{decimal, spaced, show}
 use Rattle.writing.specs.Wrote.{Wrote, Answered, twoDigits, fourDigits, pairByte, pairs, fieldOf}
-use Rattle.writing.proofs.ShowLaws.{decimal-digit, decimal-2, decimal-3, decimal-4, decimal-large, decimal-fits, spaced-one, ok-append}
+use Rattle.writing.proofs.ShowLaws.{decimal-digit, decimal-2, decimal-3, decimal-4, decimal-large, decimal-fits}
+use Rattle.writing.proofs.ShowLaws.{spaced-one, ok-append}
 
 -- ---- one after another
 

@@ -29,7 +29,10 @@ put-rows-spec =
     (λ c. search needs)
     (λ c. search needs)
     (λ c.
-    let g = c .before .before .before .before .before .before .before .loop .inv .1 in
-    (omega arith, worded-step _ _ _ _ _ _ g _ _ _ _ refl (c .before .before .before .narrow .ensures) (c .before .before .put-word .ensures)))
+    let g = c .before .before .before .before .before .before .before .loop .inv .1 in (
+      omega arith,
+      worded-step _ _ _ _ _ _ g _ _ _ _ refl (c .before .before .before .narrow .ensures)
+          (c .before .before .put-word .ensures),
+    ))
     (λ c. search needs)
     (λ c. worded-end _ _ _ _ _ _ (c .before .loop .inv .1) (omega arith)))
