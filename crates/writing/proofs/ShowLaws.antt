@@ -65,8 +65,8 @@ module _ (n : ℕ) where
       rw (decimal-more n (omega arith), decimal-more (n / 10) (omega arith), decimal-digit (n / 10 / 10) (omega arith), a, b, c)
 
   four-more : (l : List ℕ)
-      → (((l ++ ((48 + n / 10 / 10 / 10 % 10) ∷ [])) ++ ((48 + n / 10 / 10 % 10) ∷ [])) ++ ((48 + n / 10 % 10) ∷ [])) ++ ((48 + n % 10) ∷ [])
-      ≡ l ++ fourDigits (n % 10000)
+      → (((l ++ ((48 + n / 10 / 10 / 10 % 10) ∷ [])) ++ ((48 + n / 10 / 10 % 10) ∷ [])) ++ ((48 + n / 10 % 10) ∷ []))
+      ++ ((48 + n % 10) ∷ []) ≡ l ++ fourDigits (n % 10000)
   four-more l =
       let a : n / 10 / 10 / 10 % 10 ≡ n % 10000 / 100 / 10 = omega arith in
       let b : n / 10 / 10 % 10 ≡ n % 10000 / 100 % 10 = omega arith in
