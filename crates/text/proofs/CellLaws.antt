@@ -128,10 +128,12 @@ module _ (line : List ℕ) (at : ℕ) (d : Bool) (h : at < length line) (k : d �
 
 -- ---- a cell of one digit or two between two spaces
 
+-- nothing was read
 pub near-none : (line : List ℕ) (at : ℕ) (r : Field) → r ≡ nothing → Near line at r
 near-none line at r e = rw e (record { cell-is = λ h. absurd (omega arith); inside = λ h. absurd (omega arith) })
 
 module _ (line : List ℕ) (at : ℕ) (h : at + 3 < length line) (d : Bool) where
+  -- two digits, and a space
   pub near-two : (x w : ℕ) → w ≡ x → d ≡ isDigit (getD line (at + 2) 0) → d ≡ true → getD line (at + 3) 0 ≡ 32
       → (x ≤ 99 → x + 528 ≡ getD line (at + 1) 0 * 10 + getD line (at + 2) 0) → x ≤ 99 → Near line at (found w (at + 3))
   unfolding fieldBy firstBy tag
@@ -155,6 +157,7 @@ module _ (line : List ℕ) (at : ℕ) (h : at + 3 < length line) (d : Bool) wher
         inside = λ z. h;
       }
 
+  -- a digit, and a space
   pub near-one : (y : ℕ) → d ≡ isDigit (getD line (at + 1) 0) → d ≡ true → getD line (at + 2) 0 ≡ 32 → y ≡ getD line (at + 1) 0 - 48
       → Near line at (found y (at + 2))
   unfolding fieldBy firstBy tag

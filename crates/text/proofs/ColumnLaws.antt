@@ -107,9 +107,11 @@ pub filling-none : (line entry : List ℕ) (start k : ℕ) → Filling line star
 filling-none line entry start k = record { more = omega arith; low = omega arith; room = refl; written = refl; judged = refl }
 
 module _ (line : List ℕ) (at : ℕ) (r : Field) (e : Near line at r) (h : r .value ≤ 255) where
+  -- the place after it is nearer to the end
   pub near-less : at < length line → length line - r .next < length line - at
   near-less l = omega (arith, cell-goes line at r (e .cell-is h) h)
 
+  -- and inside the line
   pub near-inside : r .next < length line
   near-inside = e .inside h
 
@@ -137,9 +139,11 @@ module _ (line entry col : List ℕ) (start k at n : ℕ) (g : Filling line star
         judged = count-step line at r e h n;
       }
 
+  -- so too one of one digit or two
   pub filling-near : (r : Field) → Near line at r → r .value ≤ 255 → Filling line start k entry (set col n (r .value)) (r .next) (n + 1)
   filling-near r e h = filling-step r (e .cell-is h) h
 
+  -- what a run answers
   pub filling-ran : at < length line → Ran line start k entry col (record { at = at; n = n })
   filling-ran l = record { filled = g; inside = l }
 
@@ -158,12 +162,15 @@ module _ (line entry col : List ℕ) (start at n : ℕ) (g : Filling line start 
     now : Filling line start 0 entry next (run .at) (run .n)
     now = filling-on line entry col start 0 at n g next (run .at) (run .n) (f .filled)
 
+    -- a cell
     pub run-step : r .value ≤ 255 → Filling line start 0 entry (set next (run .n) (r .value)) (r .next) (run .n + 1)
     run-step h = filling-step line entry next start 0 (run .at) (run .n) now r e h
 
+    -- after which the end is nearer
     pub run-less : r .value ≤ 255 → at < length line → length line - r .next < length line - at
     run-less h l = omega (arith, f .filled .more, f .filled .low, cell-goes line (run .at) r e h)
 
+    -- none
     pub run-stop : 255 < r .value → Stored line start entry next cells.Bad
     run-stop h =
         record {

@@ -27,6 +27,7 @@ pub digit-high : (b : ℕ) → isDigit b ≡ true → b ≤ 57
 unfolding isDigit
 digit-high b h = leb-true b 57 (and-eq-true-iff (leb 48 b) (leb b 57) .0 h .1)
 
+-- the bytes from 48 to 57 are digits
 pub digit-in : (b : ℕ) → 48 ≤ b → b ≤ 57 → isDigit b ≡ true
 unfolding isDigit
 digit-in b l h = rw (le-leb 48 b l, le-leb b 57 h)

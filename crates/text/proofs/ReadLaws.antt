@@ -132,6 +132,7 @@ unfolding asked askedBy
 unread-fits d = record { means = refl; within = λ e. omega arith }
 
 module _ (d : List ℕ) where
+  -- the numbers of a word, one after another, make a request and a call alike
   fits-all : (m : List ℕ → Option Request) (k : List ℕ → Option Call) → ((l : List ℕ) → Fits (orUnread (m l)) d (k l))
       → (o : Option (List ℕ))
       → Fits (orUnread (whenAll m o)) d (whenAll k o)

@@ -27,12 +27,14 @@ use Rattle.text.proofs.ColumnLaws.{number-below, small-below}
 abbrev numbersAt : List ℕ → ℕ → Option (List ℕ)
 numbersAt line at = each number (after space line at)
 
+-- the first number is handed on
 first-then : {A : Type 0} (more : ℕ → List ℕ → Option A) (a : ℕ) (o : Option (List ℕ))
     → whenAll (andThen more) (withFirst (some a) o) ≡ whenAll (more a) o
 unfolding whenAll andThen withFirst
 first-then more a none = refl
 first-then more a (some l) = refl
 
+-- a field more is one too many
 first-ends : {A : Type 0} (x : A) (o : Option ℕ) (p : Option (List ℕ)) → whenAll (noMore x) (withFirst o p) ≡ none
 unfolding whenAll noMore withFirst
 first-ends x none p = refl
@@ -44,6 +46,7 @@ module _ (line : List ℕ) (at : ℕ) (r : Field) (e : r ≡ fieldBy number line
   next-within h = took number 9999 number-below line at r e h .within
 
   module _ (q : Request) (more : ℕ → List ℕ → Option Request) where
+    -- there is no next number
     pub number-stuck : q ≡ unreadable → 9999 < r .value → q ≡ orUnread (whenAll (andThen more) (numbersAt line at))
     unfolding each withFirst whenAll andThen orUnread
     number-stuck u h = u ∙ go (stuck number 9999 number-below line at r e h)
@@ -52,6 +55,7 @@ module _ (line : List ℕ) (at : ℕ) (r : Field) (e : r ≡ fieldBy number line
         go (nothing-left p) = rw p
         go (not-read f fs p b) = rw (p, b)
 
+    -- there is one: the others make the rest of it
     pub number-next : r .value ≤ 9999 → q ≡ orUnread (whenAll (more (r .value)) (numbersAt line (r .next)))
         → q ≡ orUnread (whenAll (andThen more) (numbersAt line at))
     unfolding each
@@ -60,6 +64,7 @@ module _ (line : List ℕ) (at : ℕ) (r : Field) (e : r ≡ fieldBy number line
         rw (t .fields, t .is, first-then more (r .value) (numbersAt line (r .next))) g
 
 module _ (line : List ℕ) (at : ℕ) (x q : Request) where
+  -- a field too many
   pub numbers-over : at < length line → q ≡ unreadable → q ≡ orUnread (whenAll (noMore x) (numbersAt line at))
   unfolding each orUnread
   numbers-over h u =
@@ -69,6 +74,7 @@ module _ (line : List ℕ) (at : ℕ) (x q : Request) where
         first-ends x (number (partAt space line (at + 1))) (each number (after space line (endAt space line (at + 1)))),
       )
 
+  -- no more fields
   pub numbers-all : length line ≤ at → x ≡ orUnread (whenAll (noMore x) (numbersAt line at))
   unfolding each whenAll noMore orUnread
   numbers-all h = rw (after-end space line at h)

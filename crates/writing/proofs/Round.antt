@@ -34,11 +34,13 @@ unfolding valueFrom
 value-append x [] b = refl
 value-append x (c ∷ f) b = value-append (x * 10 + (c - 48)) f b
 
+-- what is to be said of a number's bytes
 record Said (f : List ℕ) (n : ℕ) : Type 0 where
   all-digits : allDigits f ≡ true
   value-is : valueFrom 0 f ≡ n
   some-byte : 1 ≤ length f
 
+-- it is so of every number
 decimal-says : (k n : ℕ) → n ≤ k → Said (decimal n) n
 unfolding allDigits valueFrom
 decimal-says zero n h =
@@ -79,6 +81,7 @@ unfolding split before hasByte
 split-only s [] h = refl
 split-only s (b ∷ f) h = let c = or-none (eqb b s) (hasByte s f) h in rw (c .0, split-only s f (c .1))
 
+-- digits are no spaces
 no-space : (f : List ℕ) → allDigits f ≡ true → hasByte space f ≡ false
 unfolding allDigits hasByte
 no-space [] h = refl

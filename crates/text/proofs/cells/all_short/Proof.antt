@@ -6,9 +6,6 @@ use Rattle.text.proofs.ShortLaws.{unsaid, short-turns}
 use Rattle.text.proofs.cells.all_short.Statement.{statement}
 use Rattle.text.proofs.cells.all_short.Tie as tie
 
-returns-6 : tie.Need-returns-6
-returns-6 c = short-turns _ _ _ _ (omega arith) (omega arith) (omega arith) (omega arith) (c .before .if5 .left) _ (c .all-turned .ensures)
-
 pub all-short-spec : {M : Type 1} → statement M
 all-short-spec =
     tie.close
@@ -22,4 +19,4 @@ all-short-spec =
     (λ c. search needs)
     (λ c. unsaid)
     (λ c κs. search needs)
-    returns-6)
+    (λ c. short-turns _ _ _ _ (omega arith) (omega arith) (omega arith) (omega arith) (c .before .if5 .left) _ (c .all-turned .ensures)))

@@ -16,9 +16,6 @@ Inv-loop line from n e ok₀ j₀ ok j = (from ≤ j) × (e ≡ from + n) × (ok
 abbrev μ-loop : tie.MeasureT-loop
 μ-loop line from n e ok₀ j₀ ok j = e - j
 
-loop-again : tie.Need-loop-again Inv-loop μ-loop
-loop-again c = (omega arith, omega arith, turned-more _ _ _ _ _ (c .before .before .before .before .loop .inv .2) (c .turned .ensures))
-
 pub all-turned-spec : {M : Type 1} → statement M
 all-turned-spec =
     tie.close
@@ -33,5 +30,5 @@ all-turned-spec =
     (λ c κs. search needs)
     (λ c. omega arith)
     (λ c. omega arith)
-    loop-again
+    (λ c. (omega arith, omega arith, turned-more _ _ _ _ _ (c .before .before .before .before .loop .inv .2) (c .turned .ensures)))
     (λ c. turned-all _ _ _ _ _ _ (c .before .loop .inv .2) (c .before .loop .inv .1) (omega arith)))

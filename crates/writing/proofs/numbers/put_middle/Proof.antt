@@ -5,9 +5,6 @@ use Rattle.writing.proofs.WroteLaws.{number-large, number-far}
 use Rattle.writing.proofs.numbers.put_middle.Statement.{statement}
 use Rattle.writing.proofs.numbers.put_middle.Tie as tie
 
-put-four-requires : tie.Need-put-four-requires
-put-four-requires c κs = (omega arith, omega (arith, number-far 1 _ _ _ _ _ (c .before .before .before .put-small2 .ensures) (omega arith)))
-
 pub put-middle-spec : {M : Type 1} → statement M
 put-middle-spec =
     tie.close
@@ -16,6 +13,6 @@ put-middle-spec =
     (λ c. search needs)
     (λ c. search needs)
     (λ c κs. search needs)
-    put-four-requires
+    (λ c κs. (omega arith, omega (arith, number-far 1 _ _ _ _ _ (c .before .before .before .put-small2 .ensures) (omega arith))))
     (λ c. search needs)
     (λ c. search number-large))

@@ -5,9 +5,6 @@ use Rattle.writing.proofs.WroteLaws.{number-large, number-far}
 use Rattle.writing.proofs.numbers.put_number.Statement.{statement}
 use Rattle.writing.proofs.numbers.put_number.Tie as tie
 
-put-four-requires : tie.Need-put-four-requires
-put-four-requires c κs = (omega arith, omega (arith, number-far 5 _ _ _ _ _ (c .before .before .before .put-middle .ensures) (omega arith)))
-
 pub put-number-spec : {M : Type 1} → statement M
 put-number-spec =
     tie.close
@@ -16,6 +13,6 @@ put-number-spec =
     (λ c. search needs)
     (λ c. search needs)
     (λ c κs. search needs)
-    put-four-requires
+    (λ c κs. (omega arith, omega (arith, number-far 5 _ _ _ _ _ (c .before .before .before .put-middle .ensures) (omega arith))))
     (λ c. search needs)
     (λ c. search number-large))
