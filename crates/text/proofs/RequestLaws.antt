@@ -128,6 +128,3 @@ module _ (line : List ℕ) (at : ℕ) (entry : List ℕ) (r : Field) (e : r ≡ 
           bytes-are = stored;
           request-is = rw (the .fields, the .is) (count-is s (each byteOf (after space line (r .next))) n (r .value) (g .count-is) k);
         }
-
-    pub column-next : r .next ≤ length line
-    column-next = the .within
