@@ -15,9 +15,9 @@ use Rattle.text.specs.Split.{space}
 use Rattle.text.specs.Number.{isDigit, number}
 use Rattle.text.specs.Parse.{upTo254, small}
 use Rattle.text.specs.Places.{partAt, after, found, nothing, tag, firstBy, fieldBy}
-use Rattle.text.specs.Cells.{byteOf}
+use Rattle.text.specs.Cells.{byteOf, Near}
 use Rattle.text.proofs.SplitLaws.{part-end, part-here, part-step, after-step}
-use Rattle.text.proofs.NumberLaws.{digitsFrom, number-first, number-empty, digit-high, digit-no-dash, digit-yes}
+use Rattle.text.proofs.NumberLaws.{digitsFrom, number-first, digit-in, digit-low, digit-high, digit-no-space, digit-no-dash}
 use Rattle.text.proofs.WordLaws.{same-eq}
 
 -- ---- a number up to 254
@@ -87,51 +87,32 @@ module _ (line : List ℕ) (at : ℕ) where
 
 -- ---- a field of one byte, and one of two
 
-module _ (b next : ℕ) (d : Bool) (k : d ≡ isDigit b) where
-  pub one-digit : (y : ℕ) → d ≡ true → y ≡ b - 48 → found y next ≡ tag (byteOf (b ∷ [])) next
-  unfolding byteOf small upTo254 same digitsFrom tag
-  one-digit y u m =
-      let n : b ≡ 45 → ⊥ = digit-no-dash b (digit-yes b d k u) in
-      let l : b - 48 ≤ 254 = omega (arith, digit-high b (digit-yes b d k u)) in
-      rw (ne-eqb b 45 n, number-first b [], ← k, u, le-leb (b - 48) 254 l, m)
+-- a digit
+pub byte-digit : (b : ℕ) → isDigit b ≡ true → byteOf (b ∷ []) ≡ some (b - 48)
+unfolding byteOf small upTo254 same digitsFrom
+byte-digit b d =
+    rw (ne-eqb b 45 (digit-no-dash b d), number-first b [], d, le-leb (b - 48) 254 (omega (arith, digit-high b d)))
 
-  pub one-dash : b ≡ 45 → found 255 next ≡ tag (byteOf (b ∷ [])) next
-  unfolding byteOf same tag
-  one-dash e = rw (eq-eqb b 45 e)
+-- `-`
+pub byte-dash : (b : ℕ) → b ≡ 45 → byteOf (b ∷ []) ≡ some 255
+unfolding byteOf same
+byte-dash b e = rw (eq-eqb b 45 e)
 
-  pub one-none : (r : Field) → r ≡ nothing → d ≡ false → (b ≡ 45 → ⊥) → r ≡ tag (byteOf (b ∷ [])) next
-  unfolding byteOf small upTo254 same tag
-  one-none r q u e = rw (ne-eqb b 45 e, number-first b [], ← k, u) q
-
-module _ (a b next : ℕ) (d : Bool) (k : d ≡ isDigit a) where
-  two-same : same (a ∷ b ∷ []) (bytes "-") ≡ false
-  unfolding same
-  two-same = and-false (eqb a 45)
-
-  pub two-none : (r : Field) → r ≡ nothing → d ≡ false → r ≡ tag (byteOf (a ∷ b ∷ [])) next
-  unfolding byteOf small upTo254 tag
-  two-none r q u = rw (two-same, number-first a (b ∷ []), ← k, u) q
-
-  module _ (e : Bool) (i : e ≡ isDigit b) where
-    pub two-half : (r : Field) → r ≡ nothing → d ≡ true → e ≡ false → r ≡ tag (byteOf (a ∷ b ∷ [])) next
-    unfolding byteOf small upTo254 tag digitsFrom
-    two-half r q u v = rw (two-same, number-first a (b ∷ []), ← k, u, ← i, v) q
-
-    pub two-digits : (x y : ℕ) → d ≡ true → e ≡ true → x ≡ a - 48 → y ≡ b - 48 → found (x * 10 + y) next ≡ tag (byteOf (a ∷ b ∷ [])) next
-    unfolding byteOf small upTo254 tag digitsFrom
-    two-digits x y u v m n =
-        let l : (a - 48) * 10 + (b - 48) ≤ 254 = omega (arith, digit-high a (digit-yes a d k u), digit-high b (digit-yes b e i v)) in
-        rw (two-same, number-first a (b ∷ []), ← k, u, ← i, v, le-leb ((a - 48) * 10 + (b - 48)) 254 l, m, n)
+-- two digits: the second is one, and what they say is below 100
+byte-two : (a b x : ℕ) → isDigit b ≡ true → x ≤ 99 → x + 528 ≡ a * 10 + b → byteOf (a ∷ b ∷ []) ≡ some x
+unfolding byteOf small upTo254 same digitsFrom
+byte-two a b x d l e =
+    let v : (a - 48) * 10 + (b - 48) ≡ x = omega (arith, digit-low b d, digit-high b d) in
+    rw (
+      and-false (eqb a 45),
+      number-first a (b ∷ []),
+      digit-in a (omega (arith, digit-high b d)) (omega (arith, digit-low b d)),
+      d,
+      v,
+      le-leb x 254 (omega arith),
+    )
 
 -- ---- the field of a cell at its place
-
-byte-empty : byteOf [] ≡ none
-unfolding byteOf small upTo254 same
-byte-empty = rw number-empty
-
-byte-space : (l : List ℕ) → byteOf (32 ∷ l) ≡ none
-unfolding byteOf small upTo254 same isDigit
-byte-space l = rw (number-first 32 l)
 
 module _ (line : List ℕ) (at : ℕ) (d : Bool) (h : at < length line) (k : d ≡ same (partAt space line (at + 1)) (bytes "-")) where
   pub cell-dash : d ≡ true → found 255 (at + 2) ≡ fieldBy byteOf line at
@@ -145,48 +126,53 @@ module _ (line : List ℕ) (at : ℕ) (d : Bool) (h : at < length line) (k : d �
   unfolding fieldBy firstBy byteOf
   cell-small q u g = g ∙ rw (after-step space line at h, ← k, u)
 
-module _ (line : List ℕ) (at : ℕ) (r : Field) (h : at + 3 < length line) where
-  pub cell-one : getD line (at + 2) 0 ≡ 32 → r ≡ tag (byteOf (getD line (at + 1) 0 ∷ [])) (at + 2) → r ≡ fieldBy byteOf line at
+-- ---- a cell of one digit or two between two spaces
+
+-- nothing was read
+pub near-none : (line : List ℕ) (at : ℕ) (r : Field) → r ≡ nothing → Near line at r
+near-none line at r e = rw e (record { cell-is = λ h. absurd (omega arith); inside = λ h. absurd (omega arith) })
+
+module _ (line : List ℕ) (at : ℕ) (h : at + 3 < length line) (d : Bool) where
+  -- two digits, and a space
+  pub near-two : (x w : ℕ) → w ≡ x → d ≡ isDigit (getD line (at + 2) 0) → d ≡ true → getD line (at + 3) 0 ≡ 32
+      → (x ≤ 99 → x + 528 ≡ getD line (at + 1) 0 * 10 + getD line (at + 2) 0) → x ≤ 99 → Near line at (found w (at + 3))
   unfolding fieldBy firstBy tag
-  cell-one s e = go (eqb (getD line (at + 1) 0) 32) refl
-    where
-      l : at < length line
-      l = omega arith
+  near-two x w e k u s v l =
+      let b : isDigit (getD line (at + 2) 0) ≡ true = sym k ∙ u in
+      let p : at + 1 + 1 ≡ at + 2 = omega arith in
+      let q : at + 2 + 1 ≡ at + 3 = omega arith in
+      let m : at + 1 + 2 ≡ at + 3 = omega arith in
+      record {
+        cell-is = λ z. sym (rw (
+          after-step space line at (omega arith),
+          part-step space line (at + 1) (omega arith) (λ w. omega (arith, v l, digit-high (getD line (at + 2) 0) b)),
+          p,
+          part-step space line (at + 2) (omega arith) (digit-no-space (getD line (at + 2) 0) b),
+          q,
+          part-here space line (at + 3) h s,
+          byte-two (getD line (at + 1) 0) (getD line (at + 2) 0) x b l (v l),
+          m,
+          e,
+        ));
+        inside = λ z. h;
+      }
 
-      p : at + 1 + 1 ≡ at + 2
-      p = omega arith
-
-      go : (t : Bool) → eqb (getD line (at + 1) 0) 32 ≡ t → r ≡ firstBy byteOf (after space line at) at
-      go true q =
-          let b = eqb-true (getD line (at + 1) 0) 32 q in
-          rw (after-step space line at l, part-here space line (at + 1) (omega arith) b, byte-empty) (e ∙ rw (b, byte-space []))
-      go false q =
-          let f : partAt space line (at + 1) ≡ getD line (at + 1) 0 ∷ [] =
-          part-step space line (at + 1) (omega arith) (eqb-false (getD line (at + 1) 0) 32 q) ∙ rw (part-here space line (at + 1 + 1) (omega arith) (rw p s)) in
-          rw (after-step space line at l, f, p) e
-
-  pub cell-two : (getD line (at + 2) 0 ≡ 32 → ⊥) → getD line (at + 3) 0 ≡ 32 → r ≡ tag (byteOf (getD line (at + 1) 0 ∷ getD line (at + 2) 0 ∷ [])) (at + 3)
-      → r ≡ fieldBy byteOf line at
+  -- a digit, and a space
+  pub near-one : (y : ℕ) → d ≡ isDigit (getD line (at + 1) 0) → d ≡ true → getD line (at + 2) 0 ≡ 32 → y ≡ getD line (at + 1) 0 - 48
+      → Near line at (found y (at + 2))
   unfolding fieldBy firstBy tag
-  cell-two n s e = go (eqb (getD line (at + 1) 0) 32) refl
-    where
-      l : at < length line
-      l = omega arith
-
-      p : at + 1 + 1 ≡ at + 2
-      p = omega arith
-
-      p′ : at + 2 + 1 ≡ at + 3
-      p′ = omega arith
-
-      go : (t : Bool) → eqb (getD line (at + 1) 0) 32 ≡ t → r ≡ firstBy byteOf (after space line at) at
-      go true q =
-          let b = eqb-true (getD line (at + 1) 0) 32 q in
-          rw (after-step space line at l, part-here space line (at + 1) (omega arith) b, byte-empty) (e ∙ rw (b, byte-space (getD line (at + 2) 0 ∷ [])))
-      go false q =
-          let f : partAt space line (at + 2) ≡ getD line (at + 2) 0 ∷ [] =
-          part-step space line (at + 2) (omega arith) n ∙ rw (part-here space line (at + 2 + 1) (omega arith) (rw p′ s)) in
-          let g : partAt space line (at + 1) ≡ getD line (at + 1) 0 ∷ getD line (at + 2) 0 ∷ [] =
-          part-step space line (at + 1) (omega arith) (eqb-false (getD line (at + 1) 0) 32 q) ∙ rw (p, f) in
-          let m : at + 1 + 2 ≡ at + 3 = omega arith in
-          rw (after-step space line at l, g, m) e
+  near-one y k u s e =
+      let b : isDigit (getD line (at + 1) 0) ≡ true = sym k ∙ u in
+      let p : at + 1 + 1 ≡ at + 2 = omega arith in
+      record {
+        cell-is = λ z. sym (rw (
+          after-step space line at (omega arith),
+          part-step space line (at + 1) (omega arith) (digit-no-space (getD line (at + 1) 0) b),
+          p,
+          part-here space line (at + 2) (omega arith) s,
+          byte-digit (getD line (at + 1) 0) b,
+          p,
+          e,
+        ));
+        inside = λ z. omega arith;
+      }

@@ -1,9 +1,9 @@
--- Chunking does not matter: two chunks are read as one, its lines are those of the input, and a buffer of one byte more than the longest line
--- holds enough of each.
+-- Chunking does not matter: two chunks are read as one, its lines are those of the input, and a buffer of one byte more than the longest
+-- line holds enough of each.
 -- Assumes nothing.
 use mathlib.Core.Path.{_≡_, refl, sym, ap, _∙_}
 use mathlib.Core.Bool.{Bool, true, false, cond}
-use mathlib.Core.List.{List, [], _∷_, _++_, append-assoc, append-nil, map}
+use mathlib.Core.List.{List, [], _∷_, _++_, append-assoc, append-nil, map, map-append}
 use mathlib.Core.Logic.{_⊎_, inl, inr}
 use mathlib.Core.Option.{none}
 use Prim.Native.Nat.{ℕ, zero, suc, _<_, _≤_}
@@ -11,7 +11,7 @@ use native.Mathlib.Omega.{arith}
 use borrow.Author.Tests.{lt-leb}
 use lib.Dec.{eqb}
 use lib.ListN.{length, take, length-take}
-use lib.Seq.{take-all, take-take}
+use lib.Seq.{take-all}
 use Rattle.bits.specs.Cases.{lt-cases}
 use Rattle.text.specs.Split.{before, split, newline}
 use Rattle.text.specs.Parse.{longestLine, parse}
@@ -56,7 +56,8 @@ front p (f ∷ fs) = (p ++ f) ∷ fs
 
 module _ (p : List ℕ) (b : ℕ) (l f : List ℕ) (fs : List (List ℕ)) (s : split newline l ≡ f ∷ fs) where
   cut-split-more : (t : Bool) → eqb b newline ≡ t → cut [] l ≡ allButLast (front [] (split newline l))
-      → cut (p ++ b ∷ []) l ≡ allButLast (front (p ++ b ∷ []) (split newline l)) → cut p (b ∷ l) ≡ allButLast (front p (split newline (b ∷ l)))
+      → cut (p ++ b ∷ []) l ≡ allButLast (front (p ++ b ∷ []) (split newline l))
+      → cut p (b ∷ l) ≡ allButLast (front p (split newline (b ∷ l)))
   unfolding cut split before front allButLast
   cut-split-more true e h k = rw (e, h, s, append-nil p)
   cut-split-more false e h k = rw (e, k, s, append-assoc)
@@ -122,8 +123,7 @@ last-held (suc m) [] h = refl
 last-held (suc m) (b ∷ p) h = refl
 
 pub held-append : (m : ℕ) (a b : List (List ℕ)) → map (take m) (a ++ b) ≡ map (take m) a ++ map (take m) b
-held-append m [] b = refl
-held-append m (l ∷ a) b = rw (held-append m a b)
+held-append m a b = map-append (take m) a b
 
 -- ---- a line of which more bytes are held than the longest line has means what it means whole
 

@@ -4,21 +4,21 @@ use mathlib.Core.Path.{_≡_, refl, sym, _∙_}
 use mathlib.Core.List.{List, [], _∷_}
 use mathlib.Core.Bool.{Bool, true, false, cond}
 use mathlib.Core.Option.{Option, none, some, Option·some-injective, Option·none-ne-some}
-use Prim.Native.Nat.{ℕ, suc, _+_, _-_, _*_, _<_, _≤_}
+use Prim.Native.Nat.{ℕ, suc, _+_, _-_, _<_, _≤_}
 use native.Mathlib.Numerals.{add-one}
 use native.Mathlib.Omega.{arith}
 use borrow.Author.Tests.{leb-true}
 use lib.Dec.{leb}
 use lib.ListN.{length, set, length-set}
-use lib.Seq.{sets}
 use Rattle.text.specs.declared.fields.Field.{Field}
 use Rattle.text.specs.declared.cells.Cells.the-variants as cells
+use Rattle.text.specs.declared.cells.Run.{Run}
 use Rattle.text.specs.Bytes.{bytes, same}
 use Rattle.text.specs.Split.{space}
 use Rattle.text.specs.Number.{number}
 use Rattle.text.specs.Parse.{upTo254, small, withFirst, each}
 use Rattle.text.specs.Places.{after, fieldBy}
-use Rattle.text.specs.Cells.{byteOf, orEnd, bytesOf, counted, Stored}
+use Rattle.text.specs.Cells.{byteOf, orEnd, bytesOf, counted, Stored, Filling, Ran, Near}
 use Rattle.text.proofs.SplitLaws.{after-end, after-step}
 use Rattle.text.proofs.NumberLaws.{number-empty, number-le}
 use Rattle.text.proofs.FieldLaws.{Below, Took, took, Stuck, stuck, nothing-left, not-read}
@@ -73,7 +73,7 @@ module _ (line : List ℕ) (at : ℕ) (r : Field) (e : r ≡ fieldBy byteOf line
     the : Took byteOf line at r
     the = took byteOf 255 byte-below line at r e h
 
-    pub cell-goes : at + 2 ≤ r .next
+    cell-goes : at + 2 ≤ r .next
     cell-goes = omega (arith, byte-some (the .f) (r .value) (the .is), the .place)
 
     bytes-step : bytesOf (after space line at) ≡ r .value ∷ bytesOf (after space line (r .next))
@@ -101,34 +101,53 @@ module _ (line : List ℕ) (at : ℕ) (r : Field) (e : r ≡ fieldBy byteOf line
         go (nothing-left q) = let z = sym q ∙ after-step space line at k in cc
         go (not-read f fs q b) = rw (q, b)
 
--- ---- the loop: what is stored and counted so far, and what is still to come
+-- ---- the loops: what is stored and counted so far, and what is still to come
 
-pub record Filling (line entry col : List ℕ) (start at n : ℕ) : Type 0 where
-  pub low : start + 2 * n ≤ at
-  pub room : length col ≡ length entry
-  pub written : sets entry 0 (bytesOf (after space line start)) ≡ sets col n (bytesOf (after space line at))
-  pub judged : counted 0 (each byteOf (after space line start)) ≡ counted n (each byteOf (after space line at))
+pub filling-none : (line entry : List ℕ) (start k : ℕ) → Filling line start k entry entry start k
+filling-none line entry start k = record { more = omega arith; low = omega arith; room = refl; written = refl; judged = refl }
 
-pub filling-none : (line entry : List ℕ) (start : ℕ) → Filling line entry entry start start 0
-filling-none line entry start = record { low = omega arith; room = refl; written = refl; judged = refl }
+module _ (line : List ℕ) (at : ℕ) (r : Field) (e : Near line at r) (h : r .value ≤ 255) where
+  -- the place after it is nearer to the end
+  pub near-less : at < length line → length line - r .next < length line - at
+  near-less l = omega (arith, cell-goes line at r (e .cell-is h) h)
 
-module _ (line entry col : List ℕ) (start at n : ℕ) (g : Filling line entry col start at n) where
-  pub filling-step : (r : Field) → r ≡ fieldBy byteOf line at → r .value ≤ 255 → Filling line entry (set col n (r .value)) start (r .next) (n + 1)
-  filling-step r e h =
+  -- and inside the line
+  pub near-inside : r .next < length line
+  near-inside = e .inside h
+
+module _ (line entry col : List ℕ) (start k at n : ℕ) (g : Filling line start k entry col at n) where
+  -- more cells after those
+  filling-on : (next : List ℕ) (to m : ℕ) → Filling line at n col next to m → Filling line start k entry next to m
+  filling-on next to m f =
       record {
-        low = omega (arith, g .low, cell-goes line at r e h);
-        room = length-set col n (r .value) ∙ g .room;
-        written = g .written ∙ rw (bytes-step line at r e h, add-one);
-        judged = g .judged ∙ count-step line at r e h n;
+        more = omega (arith, g .more, f .more);
+        low = omega (arith, g .low, f .low);
+        room = f .room ∙ g .room;
+        written = g .written ∙ f .written;
+        judged = g .judged ∙ f .judged;
       }
 
-  pub filling-stop : (r : Field) → at < length line → r ≡ fieldBy byteOf line at → 255 < r .value → Stored line start entry col cells.Bad
-  filling-stop r k e h =
+  -- one cell more
+  pub filling-step : (r : Field) → r ≡ fieldBy byteOf line at → r .value ≤ 255
+      → Filling line start k entry (set col n (r .value)) (r .next) (n + 1)
+  filling-step r e h = filling-on (set col n (r .value)) (r .next) (n + 1)
       record {
-        bytes-are = sym (g .written ∙ rw (bytes-stop line at r e h k));
-        count-is = sym (g .judged ∙ count-stop line at r e h k n);
+        more = omega arith;
+        low = omega (arith, cell-goes line at r e h);
+        room = length-set col n (r .value);
+        written = rw (bytes-step line at r e h, add-one);
+        judged = count-step line at r e h n;
       }
 
+  -- so too one of one digit or two
+  pub filling-near : (r : Field) → Near line at r → r .value ≤ 255 → Filling line start k entry (set col n (r .value)) (r .next) (n + 1)
+  filling-near r e h = filling-step r (e .cell-is h) h
+
+  -- what a run answers
+  pub filling-ran : at < length line → Ran line start k entry col (record { at = at; n = n })
+  filling-ran l = record { filled = g; inside = l }
+
+module _ (line entry col : List ℕ) (start at n : ℕ) (g : Filling line start 0 entry col at n) where
   pub filling-end : length line ≤ at → Stored line start entry col (cells.Count n)
   unfolding bytesOf each counted
   filling-end k =
@@ -137,3 +156,24 @@ module _ (line entry col : List ℕ) (start at n : ℕ) (g : Filling line entry 
         bytes-are = sym (g .written ∙ rw (after-end space line at k));
         count-is = sym (g .judged ∙ rw (after-end space line at k, z));
       }
+
+  -- a run, and what is read after it
+  module _ (next : List ℕ) (run : Run) (f : Ran line at n col next run) (r : Field) (e : r ≡ fieldBy byteOf line (run .at)) where
+    now : Filling line start 0 entry next (run .at) (run .n)
+    now = filling-on line entry col start 0 at n g next (run .at) (run .n) (f .filled)
+
+    -- a cell
+    pub run-step : r .value ≤ 255 → Filling line start 0 entry (set next (run .n) (r .value)) (r .next) (run .n + 1)
+    run-step h = filling-step line entry next start 0 (run .at) (run .n) now r e h
+
+    -- after which the end is nearer
+    pub run-less : r .value ≤ 255 → at < length line → length line - r .next < length line - at
+    run-less h l = omega (arith, f .filled .more, f .filled .low, cell-goes line (run .at) r e h)
+
+    -- none
+    pub run-stop : 255 < r .value → Stored line start entry next cells.Bad
+    run-stop h =
+        record {
+          bytes-are = sym (now .written ∙ rw (bytes-stop line (run .at) r e h (f .inside)));
+          count-is = sym (now .judged ∙ count-stop line (run .at) r e h (f .inside) (run .n));
+        }

@@ -1,7 +1,7 @@
 -- Laws of the code that gathers lines: blocks without a newline, bytes copied, and a line fed.
 -- Assumes nothing.
 use mathlib.Core.Path.{_≡_, refl, sym, ap, _∙_}
-use mathlib.Core.Bool.{Bool, true, false, _||_, or-false}
+use mathlib.Core.Bool.{Bool, true, false, _||_, or-false, or-assoc}
 use mathlib.Core.List.{List, [], _∷_, _++_, append-assoc, append-nil}
 use Prim.Native.Nat.{ℕ, zero, suc, _+_, _-_, _<_, _≤_, min}
 use native.Mathlib.Numerals.{add-one}
@@ -17,20 +17,17 @@ use Rattle.text.proofs.SplitLaws.{end-step, end-fits, end-past, take-pa
 
 -- ---- whether one of the bytes is s
 
-or-assoc : (a b c : Bool) → a || (b || c) ≡ (a || b) || c
-or-assoc true b c = refl
-or-assoc false b c = refl
-
 has-append : (s : ℕ) (a b : List ℕ) → hasByte s (a ++ b) ≡ hasByte s a || hasByte s b
 unfolding hasByte
 has-append s [] b = refl
-has-append s (x ∷ a) b = rw (has-append s a b) (or-assoc (eqb x s) (hasByte s a) (hasByte s b))
+has-append s (x ∷ a) b = rw (has-append s a b) (sym (or-assoc (eqb x s) (hasByte s a) (hasByte s b)))
 
 pub found-none : (s : ℕ) (l : List ℕ) → false ≡ hasByte s (take 0 l)
 unfolding hasByte
 found-none s l = refl
 
-pub found-step : (s : ℕ) (l : List ℕ) (i : ℕ) (t : Bool) → t ≡ hasByte s (take i l) → i < length l → t || eqb (getD l i 0) s ≡ hasByte s (take (i + 1) l)
+pub found-step : (s : ℕ) (l : List ℕ) (i : ℕ) (t : Bool) → t ≡ hasByte s (take i l) → i < length l
+    → t || eqb (getD l i 0) s ≡ hasByte s (take (i + 1) l)
 unfolding hasByte
 found-step s l i t e h =
     rw (add-one, take-suc l i 0 h, has-append s (take i l) (getD l i 0 ∷ []), or-false (eqb (getD l i 0) s), e)
@@ -40,7 +37,7 @@ found-all s l i t e h = e ∙ rw (take-all i l h)
 
 -- ---- a block without it
 
-or-none : (a b : Bool) → a || b ≡ false → (a ≡ false) × (b ≡ false)
+pub or-none : (a b : Bool) → a || b ≡ false → (a ≡ false) × (b ≡ false)
 or-none true b h = (h, cc)
 or-none false b h = (refl, h)
 
@@ -59,7 +56,8 @@ block-step l from i r w h k e q =
     let z : i + 64 - i ≡ 64 = omega arith in
     w ∙ pass newline l 64 i (omega arith) (ap (λ (n : ℕ). hasByte newline (take n (drop i l))) (sym z) ∙ sym e ∙ q)
 
-pub ends-same : (s : ℕ) (l : List ℕ) (from i j r : ℕ) → endAt s l from ≡ endAt s l i → (j ≤ length l) × (endAt s l i ≡ endAt s l j) → r ≡ endAt s l j → r ≡ endAt s l from
+pub ends-same : (s : ℕ) (l : List ℕ) (from i j r : ℕ) → endAt s l from ≡ endAt s l i → (j ≤ length l) × (endAt s l i ≡ endAt s l j)
+    → r ≡ endAt s l j → r ≡ endAt s l from
 ends-same s l from i j r w v e = e ∙ sym (w ∙ v .1)
 
 -- ---- bytes copied: what is there, and what is still to come
@@ -88,9 +86,12 @@ module _ (d out part : List ℕ) (at i : ℕ) (g : Copying d out part at i) wher
 take-min : (a : ℕ) (l : List ℕ) → take (min a (length l)) l ≡ take a l
 take-min zero l = let z : min 0 (length l) ≡ 0 = omega arith in rw z
 take-min (suc a) [] = take-nil (min (suc a) 0)
-take-min (suc a) (x ∷ l) = let z : min (suc a) (suc (length l)) ≡ suc (min a (length l)) = omega arith in rw z (ap (λ (r : List ℕ). x ∷ r) (take-min a l))
+take-min (suc a) (x ∷ l) =
+    let z : min (suc a) (suc (length l)) ≡ suc (min a (length l)) = omega arith in
+    rw z (ap (λ (r : List ℕ). x ∷ r) (take-min a l))
 
-pub gathered : (d part f : List ℕ) (len n : ℕ) → n ≡ min (length d - len) (length part) → f ≡ sets d len (take n part) → length f ≡ length d → Gathered d len part f (len + n)
+pub gathered : (d part f : List ℕ) (len n : ℕ) → n ≡ min (length d - len) (length part) → f ≡ sets d len (take n part)
+    → length f ≡ length d → Gathered d len part f (len + n)
 gathered d part f len n e h k =
     let t : take n part ≡ take (length d - len) part = rw (e, take-min (length d - len) part) in
     record {
@@ -100,7 +101,8 @@ gathered d part f len n e h k =
     }
 
 -- what is then held: the pending bytes and the part, as far as there is room
-pub gathered-held : (d part f : List ℕ) (len r : ℕ) → len ≤ length d → Gathered d len part f r → take r f ≡ take (length d) (take len d ++ part)
+pub gathered-held : (d part f : List ℕ) (len r : ℕ) → len ≤ length d → Gathered d len part f r
+    → take r f ≡ take (length d) (take len d ++ part)
 gathered-held d part f len r h g =
     let fit = take (length d - len) part in
     let a : length (take len d) ≡ len = length-take-le len d h in
@@ -185,7 +187,8 @@ module _ (bytes p : List ℕ) (at e : ℕ) (h : e ≡ endAt newline bytes at) wh
 
 -- ---- a line fed: e is where it ends, n how many bytes are then held
 
-module _ (d bytes f : List ℕ) (len at e n : ℕ) (h : e ≡ endAt newline bytes at) (g : Gathered d len (span at e bytes) f n) (l : len ≤ length d) where
+module _ (d bytes f : List ℕ) (len at e n : ℕ) (h : e ≡ endAt newline bytes at) (g : Gathered d len (span at e bytes) f n)
+    (l : len ≤ length d) where
   held : take n f ≡ take (length d) (take len d ++ partAt newline bytes at)
   held = gathered-held d (span at e bytes) f len n l g ∙ rw (span-part newline bytes at e h)
 
@@ -208,7 +211,9 @@ module _ (d bytes f : List ℕ) (len at e n : ℕ) (h : e ≡ endAt newline byte
       let z : drop e bytes ≡ [] = drop-of-length-le bytes {i = e} k in
       record {
         lines-are = rw (cut-last bytes (take len d) at e h k, z);
-        pending-is = rw (pend-last bytes (take len d) at e h k, z, held) (sym (take-take (length d) (length d) (take len d ++ partAt newline bytes at) (omega arith)));
+        pending-is =
+            rw (pend-last bytes (take len d) at e h k, z, held)
+            (sym (take-take (length d) (length d) (take len d ++ partAt newline bytes at) (omega arith)));
         room = g .room;
         line-fits = omega arith;
         len-fits = gathered-fits d (span at e bytes) f len n l g;

@@ -48,7 +48,8 @@ module _ (say : List ℕ → Option ℕ) (m : ℕ) (low : Below say m) (line : L
     where
       go : (at < length line) ⊎ (length line ≤ at) → Took say line at r
       go (inl l) =
-          let w = tag-is (say (partAt space line (at + 1))) (at + 1 + length (partAt space line (at + 1))) m r (low .small) (e ∙ rw (after-step space line at l)) h in
+          let f = partAt space line (at + 1) in
+          let w = tag-is (say f) (at + 1 + length f) m r (low .small) (e ∙ rw (after-step space line at l)) h in
           record {
             f = partAt space line (at + 1);
             is = w .0;

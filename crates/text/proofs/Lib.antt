@@ -10,4 +10,3 @@ pub mod ReadLaws
 pub mod FeedLaws
 pub mod Chunks
 pub mod Examples
-pub mod AskedLaws

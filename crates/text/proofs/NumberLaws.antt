@@ -2,7 +2,7 @@
 -- Assumes nothing.
 use mathlib.Core.Path.{_≡_, refl, sym, _∙_}
 use mathlib.Core.List.{List, [], _∷_}
-use mathlib.Core.Bool.{Bool, true, false, cond, _&&_}
+use mathlib.Core.Bool.{Bool, true, false, cond, _&&_, and-eq-true-iff}
 use mathlib.Core.Option.{Option, none, some, Option·some-injective, Option·none-ne-some}
 use Prim.Native.Nat.{ℕ, zero, suc, _+_, _-_, _*_, _<_, _≤_}
 use native.Mathlib.Omega.{arith}
@@ -19,17 +19,18 @@ use Rattle.text.proofs.SplitLaws.{part-end, part-here, part-step, end-e
 
 -- ---- a digit
 
-pub both : (a b : Bool) → (a && b) ≡ true → (a ≡ true) × (b ≡ true)
-both true b h = (refl, h)
-both false b h = let z : _≡_ {A = ℕ} 0 1 = cc in absurd (omega arith)
-
 pub digit-low : (b : ℕ) → isDigit b ≡ true → 48 ≤ b
 unfolding isDigit
-digit-low b h = leb-true 48 b (both (leb 48 b) (leb b 57) h .0)
+digit-low b h = leb-true 48 b (and-eq-true-iff (leb 48 b) (leb b 57) .0 h .0)
 
 pub digit-high : (b : ℕ) → isDigit b ≡ true → b ≤ 57
 unfolding isDigit
-digit-high b h = leb-true b 57 (both (leb 48 b) (leb b 57) h .1)
+digit-high b h = leb-true b 57 (and-eq-true-iff (leb 48 b) (leb b 57) .0 h .1)
+
+-- the bytes from 48 to 57 are digits
+pub digit-in : (b : ℕ) → 48 ≤ b → b ≤ 57 → isDigit b ≡ true
+unfolding isDigit
+digit-in b l h = rw (le-leb 48 b l, le-leb b 57 h)
 
 -- what a test of a byte says
 pub digit-yes : (b : ℕ) (d : Bool) → d ≡ isDigit b → d ≡ true → isDigit b ≡ true
@@ -52,8 +53,10 @@ digits-are zero x (b ∷ l) = go (isDigit b && allDigits l)
     go false = refl
 digits-are (suc left) x (b ∷ l) = go (isDigit b) (digits-are left (x * 10 + (b - 48)) l)
   where
-    go : (t : Bool) → digitsFrom left (x * 10 + (b - 48)) l ≡ cond (allDigits l && leb (length l) left) (some (valueFrom (x * 10 + (b - 48)) l)) none
-        → cond t (digitsFrom left (x * 10 + (b - 48)) l) none ≡ cond (t && allDigits l && leb (suc (length l)) (suc left)) (some (valueFrom (x * 10 + (b - 48)) l)) none
+    go : (t : Bool)
+        → digitsFrom left (x * 10 + (b - 48)) l ≡ cond (allDigits l && leb (length l) left) (some (valueFrom (x * 10 + (b - 48)) l)) none
+        → cond t (digitsFrom left (x * 10 + (b - 48)) l) none
+        ≡ cond (t && allDigits l && leb (suc (length l)) (suc left)) (some (valueFrom (x * 10 + (b - 48)) l)) none
     go true r = r ∙ rw (leb·suc-suc (length l) left)
     go false r = refl
 
@@ -62,7 +65,9 @@ pub number-first : (b : ℕ) (f : List ℕ) → number (b ∷ f) ≡ cond (isDig
 unfolding number isNumber allDigits valueFrom
 number-first b f = go (isDigit b)
   where
-    go : (t : Bool) → cond (t && allDigits f && (leb 1 (suc (length f)) && leb (suc (length f)) 4)) (some (valueFrom (0 * 10 + (b - 48)) f)) none ≡ cond t (digitsFrom 3 (b - 48) f) none
+    go : (t : Bool)
+        → cond (t && allDigits f && (leb 1 (suc (length f)) && leb (suc (length f)) 4)) (some (valueFrom (0 * 10 + (b - 48)) f)) none
+        ≡ cond t (digitsFrom 3 (b - 48) f) none
     go true =
         let z : 0 * 10 + (b - 48) ≡ b - 48 = omega arith in
         rw (z, le-leb 1 (suc (length f)) (omega arith), leb·suc-suc (length f) 3) (sym (digits-are 3 (b - 48) f))
@@ -92,7 +97,8 @@ unfolding digitsFrom
 digits-bad zero x b l h = refl
 digits-bad (suc left) x b l h = rw h
 
-digits-step : (left x b : ℕ) (l : List ℕ) → (left ≡ 0 → ⊥) → isDigit b ≡ true → digitsFrom left x (b ∷ l) ≡ digitsFrom (left - 1) (x * 10 + (b - 48)) l
+digits-step : (left x b : ℕ) (l : List ℕ) → (left ≡ 0 → ⊥) → isDigit b ≡ true
+    → digitsFrom left x (b ∷ l) ≡ digitsFrom (left - 1) (x * 10 + (b - 48)) l
 unfolding digitsFrom
 digits-step zero x b l n h = absurd (n refl)
 digits-step (suc left) x b l n h = let e : suc left - 1 ≡ left = omega arith in rw (h, e)
@@ -113,13 +119,15 @@ module _ (line : List ℕ) (left x i : ℕ) (w : Field) where
 
     pub on-bad : (r : Field) (d : Bool) → r ≡ nothing → d ≡ isDigit (getD line i 0) → d ≡ false → r ≡ w
     unfolding numberOn tag
-    on-bad r d q k u = q ∙ sym (v ∙ rw (part-step space line i h e, digits-bad left x (getD line i 0) (partAt space line (i + 1)) (sym k ∙ u)))
+    on-bad r d q k u =
+        q ∙ sym (v ∙ rw (part-step space line i h e, digits-bad left x (getD line i 0) (partAt space line (i + 1)) (sym k ∙ u)))
 
     pub on-step : (y : ℕ) (d : Bool) → (left ≡ 0 → ⊥) → d ≡ isDigit (getD line i 0) → d ≡ true → y ≡ getD line i 0 - 48
         → w ≡ numberOn (left - 1) (x * 10 + y) line (i + 1)
     unfolding numberOn
     on-step y d z k u m =
-        v ∙ rw (part-step space line i h e, digits-step left x (getD line i 0) (partAt space line (i + 1)) z (sym k ∙ u), ← m, end-step space line i h e)
+        let s = digits-step left x (getD line i 0) (partAt space line (i + 1)) z (sym k ∙ u) in
+        v ∙ rw (part-step space line i h e, s, ← m, end-step space line i h e)
 
 -- a digit is no space and no `-`
 pub digit-no-space : (b : ℕ) → isDigit b ≡ true → b ≡ 32 → ⊥
@@ -146,7 +154,8 @@ module _ (line : List ℕ) (i : ℕ) (d : Bool) (h : i < length line) (k : d ≡
 
 -- ---- a field after a place
 
-pub there : (say : List ℕ → Option ℕ) (line : List ℕ) (at : ℕ) (r : Field) → at + 1 < length line → r ≡ startBy say line (at + 1) → r ≡ fieldBy say line at
+pub there : (say : List ℕ → Option ℕ) (line : List ℕ) (at : ℕ) (r : Field) → at + 1 < length line → r ≡ startBy say line (at + 1)
+    → r ≡ fieldBy say line at
 unfolding fieldBy firstBy startBy endAt
 there say line at r h e = let l : at < length line = omega arith in e ∙ rw (after-step space line at l)
 
@@ -166,7 +175,8 @@ most (suc zero) = 999
 most (suc (suc zero)) = 99
 most (suc (suc (suc n))) = 9
 
-pub most-step : (left x y b : ℕ) (d : Bool) → left ≤ 3 → (left ≡ 0 → ⊥) → x ≤ most left → d ≡ isDigit b → d ≡ true → y ≡ b - 48 → x * 10 + y ≤ most (left - 1)
+pub most-step : (left x y b : ℕ) (d : Bool) → left ≤ 3 → (left ≡ 0 → ⊥) → x ≤ most left → d ≡ isDigit b → d ≡ true → y ≡ b - 48
+    → x * 10 + y ≤ most (left - 1)
 unfolding most
 most-step left x y b d l n h k u m = go left l n h (omega (arith, digit-high b (sym k ∙ u)))
   where

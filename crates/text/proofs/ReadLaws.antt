@@ -4,10 +4,10 @@ use mathlib.Core.Path.{_≡_, refl, sym, ap, _∙_}
 use mathlib.Core.List.{List, [], _∷_, map}
 use mathlib.Core.Bool.{Bool, true, false, cond}
 use mathlib.Core.Option.{Option, none, some}
-use Prim.Native.Nat.{ℕ, zero, suc, _+_, _*_, _<_, _≤_}
+use Prim.Native.Nat.{ℕ, _+_, _*_, _<_, _≤_}
 use native.Mathlib.Omega.{arith}
-use borrow.Author.Tests.{le-leb, lt-leb, leb-true}
-use lib.Dec.{leb}
+use borrow.Author.Tests.{le-leb, lt-leb, leb-true, ne-eqb}
+use lib.Dec.{eqb, leb}
 use lib.ListN.{length, take, drop}
 use lib.Seq.{sets, sets-eq, take-at, length-sets}
 use Rattle.bits.specs.Column.{valueOf, value-none, value-some}
@@ -19,11 +19,13 @@ use Rattle.text.specs.declared.requests.Request.{Request}
 use Rattle.text.specs.Bytes.{bytes, same}
 use Rattle.text.specs.Split.{split, space}
 use Rattle.text.specs.Number.{number}
-use Rattle.text.specs.Parse.{withFirst, each, one, two, three, upTo254, small, holding, cellOf, both, column, wordCall, fieldsCall, longestLine, parse}
+use Rattle.text.specs.Parse.{withFirst, each, whenAll, andThen, noMore, one, two, three, upTo254, small, holding, cellOf}
+use Rattle.text.specs.Parse.{both, column, wordCall, fieldsCall, longestLine, parse}
 use Rattle.text.specs.Places.{upTo, endAt, after}
 use Rattle.text.specs.Words.{orWord, laterWord, wordOf, arityOf}
 use Rattle.text.specs.Cells.{byteOf, orEnd, bytesOf}
-use Rattle.text.specs.Asked.{askedBy, asked, ifRead, columnBytes, fieldsBytes, lineBytes, Requested, ask, unreadable, orUnread, oneAsked, twoAsked, threeAsked, columnAsked, Columned}
+use Rattle.text.specs.Asked.{askedBy, asked, ifRead, columnBytes, fieldsBytes, lineBytes, Requested, ask, unreadable, orUnread}
+use Rattle.text.specs.Asked.{oneAsked, twoAsked, threeAsked, columnAsked, Columned}
 use Rattle.text.proofs.SplitLaws.{end-fits, take-first, split-start, size, size-split}
 use Rattle.text.proofs.ColumnLaws.{byte-some}
 
@@ -50,33 +52,6 @@ or-call false w v fs = refl
 word-call : (f : List ℕ) (fs : List (List ℕ)) → callOf (wordOf f) fs ≡ wordCall f fs
 unfolding wordCall wordOf laterWord callOf
 word-call f fs = simp or-call
-
--- the bytes that a word stores
-unfoldable pub storedBy : Word → List (List ℕ) → List ℕ
-storedBy word.Column fs = columnBytes fs
-storedBy word.Begin fs = []
-storedBy word.Query fs = []
-storedBy word.Read fs = []
-storedBy word.Update fs = []
-storedBy word.Delete fs = []
-storedBy word.Insert fs = []
-storedBy word.Commit fs = []
-storedBy word.Tidy fs = []
-storedBy word.Abort fs = []
-storedBy word.Unknown fs = []
-
-or-stored : (t : Bool) (w v : Word) (fs : List (List ℕ)) → storedBy (orWord t w v) fs ≡ cond t (storedBy w fs) (storedBy v fs)
-unfolding orWord
-or-stored true w v fs = refl
-or-stored false w v fs = refl
-
-either : (t : Bool) (l : List ℕ) → cond t l l ≡ l
-either true l = refl
-either false l = refl
-
-word-stored : (f : List ℕ) (fs : List (List ℕ)) → storedBy (wordOf f) fs ≡ cond (same f (bytes "column")) (columnBytes fs) []
-unfolding wordOf laterWord storedBy
-word-stored f fs = simp (or-stored, either)
 
 -- ---- a column's values as bytes and as what the rows hold
 
@@ -117,7 +92,8 @@ each-values [] = refl
 each-values (f ∷ fs) = rw (cell-valued f, each-values fs, first-values (byteOf f) (each byteOf fs))
 
 -- where each field is a value, they are all stored
-first-stored : (o : Option ℕ) (p : Option (List ℕ)) (l m : List ℕ) → ((k : List ℕ) → p ≡ some k → m ≡ k) → withFirst o p ≡ some l → orEnd o m ≡ l
+first-stored : (o : Option ℕ) (p : Option (List ℕ)) (l m : List ℕ) → ((k : List ℕ) → p ≡ some k → m ≡ k) → withFirst o p ≡ some l
+    → orEnd o m ≡ l
 unfolding withFirst orEnd
 first-stored none p l m h e = cc
 first-stored (some x) none l m h e = cc
@@ -129,7 +105,8 @@ all-stored [] l e = cc
 all-stored (f ∷ fs) l e = first-stored (byteOf f) (each byteOf fs) l (bytesOf fs) (λ k q. all-stored fs k q) e
 
 -- a value takes two bytes or more
-byte-size : (o : Option ℕ) (f l : List ℕ) (n : ℕ) → ((x : ℕ) → o ≡ some x → 1 ≤ length f) → 2 * length l ≤ n → 2 * length (orEnd o l) ≤ length f + 1 + n
+byte-size : (o : Option ℕ) (f l : List ℕ) (n : ℕ) → ((x : ℕ) → o ≡ some x → 1 ≤ length f) → 2 * length l ≤ n
+    → 2 * length (orEnd o l) ≤ length f + 1 + n
 unfolding orEnd
 byte-size none f l n h k = omega arith
 byte-size (some x) f l n h k = omega (arith, h x refl)
@@ -154,34 +131,40 @@ unread-fits : (d : List ℕ) → Fits unreadable d none
 unfolding asked askedBy
 unread-fits d = record { means = refl; within = λ e. omega arith }
 
-module _ (w : Word) (d : List ℕ) (other : arityOf w < 4) where
-  fits-some : (a b c : ℕ) (call : Call) → askedBy w a b c d ≡ some call → Fits (ask w a b c) d (some call)
-  unfolding asked arityOf
-  fits-some a b c call e = record { means = e; within = λ q. absurd (omega (arith, ap arityOf q)) }
+module _ (d : List ℕ) where
+  -- the numbers of a word, one after another, make a request and a call alike
+  fits-all : (m : List ℕ → Option Request) (k : List ℕ → Option Call) → ((l : List ℕ) → Fits (orUnread (m l)) d (k l))
+      → (o : Option (List ℕ))
+      → Fits (orUnread (whenAll m o)) d (whenAll k o)
+  unfolding whenAll orUnread
+  fits-all m k h none = unread-fits d
+  fits-all m k h (some l) = h l
 
-  fits-one : (call : ℕ → Call) → ((a : ℕ) → askedBy w a 0 0 d ≡ some (call a)) → (o : Option (List ℕ)) → Fits (orUnread (one (λ a. ask w a 0 0) o)) d (one call o)
-  unfolding one orUnread
-  fits-one call h none = unread-fits d
-  fits-one call h (some []) = unread-fits d
-  fits-one call h (some (a ∷ [])) = fits-some a 0 0 (call a) (h a)
-  fits-one call h (some (a ∷ b ∷ l)) = unread-fits d
+  fits-then : (m : ℕ → List ℕ → Option Request) (k : ℕ → List ℕ → Option Call) → ((a : ℕ) (l : List ℕ) → Fits (orUnread (m a l)) d (k a l))
+      → (l : List ℕ) → Fits (orUnread (andThen m l)) d (andThen k l)
+  unfolding andThen orUnread
+  fits-then m k h [] = unread-fits d
+  fits-then m k h (a ∷ l) = h a l
 
-  fits-two : (call : ℕ → ℕ → Call) → ((a b : ℕ) → askedBy w a b 0 d ≡ some (call a b)) → (o : Option (List ℕ)) → Fits (orUnread (two (λ a b. ask w a b 0) o)) d (two call o)
-  unfolding two orUnread
-  fits-two call h none = unread-fits d
-  fits-two call h (some []) = unread-fits d
-  fits-two call h (some (a ∷ [])) = unread-fits d
-  fits-two call h (some (a ∷ b ∷ [])) = fits-some a b 0 (call a b) (h a b)
-  fits-two call h (some (a ∷ b ∷ c ∷ l)) = unread-fits d
+  module _ (w : Word) (other : arityOf w < 4) where
+    fits-end : (a b c : ℕ) (call : Call) → askedBy w a b c d ≡ some call → (l : List ℕ)
+        → Fits (orUnread (noMore (ask w a b c) l)) d (noMore call l)
+    unfolding asked arityOf noMore orUnread
+    fits-end a b c call e [] = record { means = e; within = λ q. absurd (omega (arith, ap arityOf q)) }
+    fits-end a b c call e (x ∷ l) = unread-fits d
 
-  fits-three : (call : ℕ → ℕ → ℕ → Call) → ((a b c : ℕ) → askedBy w a b c d ≡ some (call a b c)) → (o : Option (List ℕ)) → Fits (orUnread (three (λ a b c. ask w a b c) o)) d (three call o)
-  unfolding three orUnread
-  fits-three call h none = unread-fits d
-  fits-three call h (some []) = unread-fits d
-  fits-three call h (some (a ∷ [])) = unread-fits d
-  fits-three call h (some (a ∷ b ∷ [])) = unread-fits d
-  fits-three call h (some (a ∷ b ∷ c ∷ [])) = fits-some a b c (call a b c) (h a b c)
-  fits-three call h (some (a ∷ b ∷ c ∷ e ∷ l)) = unread-fits d
+    fits-one : (call : ℕ → Call) → ((a : ℕ) → askedBy w a 0 0 d ≡ some (call a)) → (o : Option (List ℕ))
+        → Fits (orUnread (one (λ a. ask w a 0 0) o)) d (one call o)
+    fits-one call h = fits-all _ _ (fits-then _ _ (λ a. fits-end a 0 0 (call a) (h a)))
+
+    fits-two : (call : ℕ → ℕ → Call) → ((a b : ℕ) → askedBy w a b 0 d ≡ some (call a b)) → (o : Option (List ℕ))
+        → Fits (orUnread (two (λ a b. ask w a b 0) o)) d (two call o)
+    fits-two call h = fits-all _ _ (fits-then _ _ (λ a. fits-then _ _ (λ b. fits-end a b 0 (call a b) (h a b))))
+
+    fits-three : (call : ℕ → ℕ → ℕ → Call) → ((a b c : ℕ) → askedBy w a b c d ≡ some (call a b c)) → (o : Option (List ℕ))
+        → Fits (orUnread (three (λ a b c. ask w a b c) o)) d (three call o)
+    fits-three call h =
+        fits-all _ _ (fits-then _ _ (λ a. fits-then _ _ (λ b. fits-then _ _ (λ c. fits-end a b c (call a b c) (h a b c)))))
 
 fits-both : (o : Option ℕ) (p : Option (List ℕ)) (m d : List ℕ) → ((l : List ℕ) → p ≡ some l → m ≡ l) → length m ≤ length d
     → Fits (orUnread (both (λ c l. ask word.Column c (length l) 0) o p)) (sets d 0 (ifRead o m)) (both create o (values p))
@@ -195,7 +178,8 @@ fits-both (some c) (some l) m d h k =
       within = λ q. omega (arith, length-sets d 0 m, ap length e);
     }
 
-fits-column : (fs : List (List ℕ)) (d : List ℕ) → size fs ≤ 2 * length d → Fits (columnAsked fs) (sets d 0 (columnBytes fs)) (column create cellOf fs)
+fits-column : (fs : List (List ℕ)) (d : List ℕ) → size fs ≤ 2 * length d
+    → Fits (columnAsked fs) (sets d 0 (columnBytes fs)) (column create cellOf fs)
 unfolding column columnBytes orUnread size
 fits-column [] d h = unread-fits d
 fits-column (c ∷ vs) d h =
@@ -204,48 +188,44 @@ fits-column (c ∷ vs) d h =
 -- ---- by the count of a word's numbers
 
 unfoldable pub byArity : ℕ → Word → List (List ℕ) → Request
-byArity zero w fs = unreadable
-byArity (suc zero) w fs = oneAsked w fs
-byArity (suc (suc zero)) w fs = twoAsked w fs
-byArity (suc (suc (suc zero))) w fs = threeAsked w fs
-byArity (suc (suc (suc (suc zero)))) w fs = columnAsked fs
-byArity (suc (suc (suc (suc (suc n))))) w fs = unreadable
+byArity n w fs =
+    cond (eqb n 1) (oneAsked w fs) (
+    cond (eqb n 2) (twoAsked w fs) (
+    cond (eqb n 3) (threeAsked w fs) (
+    cond (eqb n 4) (columnAsked fs) unreadable)))
 
 unfoldable pub bytesBy : ℕ → List (List ℕ) → List ℕ
-bytesBy zero fs = []
-bytesBy (suc zero) fs = []
-bytesBy (suc (suc zero)) fs = []
-bytesBy (suc (suc (suc zero))) fs = []
-bytesBy (suc (suc (suc (suc zero)))) fs = columnBytes fs
-bytesBy (suc (suc (suc (suc (suc n))))) fs = []
+bytesBy n fs = cond (eqb n 4) (columnBytes fs) []
 
-fits-word : (w : Word) (fs : List (List ℕ)) (d : List ℕ) → size fs ≤ 2 * length d → Fits (byArity (arityOf w) w fs) (sets d 0 (bytesBy (arityOf w) fs)) (callOf w fs)
+or-bytes : (t : Bool) (w v : Word) (fs : List (List ℕ))
+    → bytesBy (arityOf (orWord t w v)) fs ≡ cond t (bytesBy (arityOf w) fs) (bytesBy (arityOf v) fs)
+unfolding orWord
+or-bytes true w v fs = refl
+or-bytes false w v fs = refl
+
+either : (t : Bool) (l : List ℕ) → cond t l l ≡ l
+either true l = refl
+either false l = refl
+
+word-bytes : (f : List ℕ) (fs : List (List ℕ)) → bytesBy (arityOf (wordOf f)) fs ≡ cond (same f (bytes "column")) (columnBytes fs) []
+unfolding wordOf laterWord arityOf bytesBy
+word-bytes f fs = simp (or-bytes, either)
+
+fits-word : (w : Word) (fs : List (List ℕ)) (d : List ℕ) → size fs ≤ 2 * length d
+    → Fits (byArity (arityOf w) w fs) (sets d 0 (bytesBy (arityOf w) fs)) (callOf w fs)
 unfolding byArity bytesBy arityOf callOf askedBy
 fits-word word.Column fs d h = fits-column fs d h
-fits-word word.Begin fs d h = fits-one word.Begin d (omega arith) begin (λ a. refl) (each number fs)
-fits-word word.Query fs d h = fits-two word.Query d (omega arith) (λ i v. query i v usualThreshold vectorWords) (λ a b. refl) (each number fs)
-fits-word word.Read fs d h = fits-two word.Read d (omega arith) read (λ a b. refl) (each number fs)
-fits-word word.Update fs d h = fits-three word.Update d (omega arith) update (λ a b c. refl) (each number fs)
-fits-word word.Delete fs d h = fits-two word.Delete d (omega arith) delete (λ a b. refl) (each number fs)
-fits-word word.Insert fs d h = fits-two word.Insert d (omega arith) insert (λ a b. refl) (each number fs)
-fits-word word.Commit fs d h = fits-one word.Commit d (omega arith) commit (λ a. refl) (each number fs)
-fits-word word.Tidy fs d h = fits-two word.Tidy d (omega arith) tidy (λ a b. refl) (each number fs)
-fits-word word.Abort fs d h = fits-one word.Abort d (omega arith) abort (λ a. refl) (each number fs)
+fits-word word.Begin fs d h = fits-one d word.Begin (omega arith) begin (λ a. refl) (each number fs)
+fits-word word.Query fs d h =
+    fits-two d word.Query (omega arith) (λ i v. query i v usualThreshold vectorWords) (λ a b. refl) (each number fs)
+fits-word word.Read fs d h = fits-two d word.Read (omega arith) read (λ a b. refl) (each number fs)
+fits-word word.Update fs d h = fits-three d word.Update (omega arith) update (λ a b c. refl) (each number fs)
+fits-word word.Delete fs d h = fits-two d word.Delete (omega arith) delete (λ a b. refl) (each number fs)
+fits-word word.Insert fs d h = fits-two d word.Insert (omega arith) insert (λ a b. refl) (each number fs)
+fits-word word.Commit fs d h = fits-one d word.Commit (omega arith) commit (λ a. refl) (each number fs)
+fits-word word.Tidy fs d h = fits-two d word.Tidy (omega arith) tidy (λ a b. refl) (each number fs)
+fits-word word.Abort fs d h = fits-one d word.Abort (omega arith) abort (λ a. refl) (each number fs)
 fits-word word.Unknown fs d h = unread-fits d
-
-stored-word : (w : Word) (fs : List (List ℕ)) → bytesBy (arityOf w) fs ≡ storedBy w fs
-unfolding bytesBy arityOf storedBy
-stored-word word.Column fs = refl
-stored-word word.Begin fs = refl
-stored-word word.Query fs = refl
-stored-word word.Read fs = refl
-stored-word word.Update fs = refl
-stored-word word.Delete fs = refl
-stored-word word.Insert fs = refl
-stored-word word.Commit fs = refl
-stored-word word.Tidy fs = refl
-stored-word word.Abort fs = refl
-stored-word word.Unknown fs = refl
 
 -- ---- the returns of `request`
 
@@ -260,18 +240,18 @@ line-long line entry r h e =
 
 module _ (line entry : List ℕ) (at n : ℕ) (w : Word) (short : length line ≤ 8192) (room : length line ≤ 2 * length entry)
     (a : at ≡ endAt space line 0) (e : w ≡ wordOf (take at line)) (k : n ≡ arityOf w) where
-  by-arity : (exit : List ℕ) (r : Request) → r ≡ byArity n w (after space line at) → exit ≡ sets entry 0 (bytesBy n (after space line at)) → Requested line entry exit r
+  by-arity : (exit : List ℕ) (r : Request) → r ≡ byArity n w (after space line at) → exit ≡ sets entry 0 (bytesBy n (after space line at))
+      → Requested line entry exit r
   unfolding parse lineBytes fieldsCall fieldsBytes longestLine size
   by-arity exit r q c =
       let fs = after space line at in
       let wo : w ≡ wordOf (upTo space line) = e ∙ rw (take-first space line at a) in
       let s : split space line ≡ upTo space line ∷ fs = split-start space line at a in
       let sz : length line + 1 ≡ size (upTo space line ∷ fs) = sym (size-split space line) ∙ ap size s in
-      let f : Fits (byArity (arityOf w) w fs) (sets entry 0 (bytesBy (arityOf w) fs)) (callOf w fs) = fits-word w fs entry (omega (arith, sz)) in
-      let g : Fits r exit (callOf w fs) = rw (q, c, k) f in
+      let g : Fits r exit (callOf w fs) = rw (q, c, k) (fits-word w fs entry (omega (arith, sz))) in
       record {
         means = g .means ∙ rw (le-leb (length line) 8192 short, s, wo, word-call (upTo space line) fs);
-        bytes-are = c ∙ rw (le-leb (length line) 8192 short, s, k, stored-word w fs, wo, word-stored (upTo space line) fs);
+        bytes-are = c ∙ rw (le-leb (length line) 8192 short, s, k, wo, word-bytes (upTo space line) fs);
         within = g .within;
       }
 
@@ -294,23 +274,8 @@ module _ (line entry : List ℕ) (at n : ℕ) (w : Word) (short : length line �
 
     pub line-unread : (n ≡ 1 → ⊥) → (n ≡ 2 → ⊥) → (n ≡ 3 → ⊥) → (n ≡ 4 → ⊥) → r ≡ unreadable → Requested line entry entry r
     unfolding byArity bytesBy
-    line-unread i j l m q = by-arity entry r (q ∙ ask-none n i j l m) (store-none n i j l m)
-      where
-        ask-none : (n : ℕ) → (n ≡ 1 → ⊥) → (n ≡ 2 → ⊥) → (n ≡ 3 → ⊥) → (n ≡ 4 → ⊥) → unreadable ≡ byArity n w (after space line at)
-        ask-none zero i j l m = refl
-        ask-none (suc zero) i j l m = absurd (i refl)
-        ask-none (suc (suc zero)) i j l m = absurd (j refl)
-        ask-none (suc (suc (suc zero))) i j l m = absurd (l refl)
-        ask-none (suc (suc (suc (suc zero)))) i j l m = absurd (m refl)
-        ask-none (suc (suc (suc (suc (suc n))))) i j l m = refl
-
-        store-none : (n : ℕ) → (n ≡ 1 → ⊥) → (n ≡ 2 → ⊥) → (n ≡ 3 → ⊥) → (n ≡ 4 → ⊥) → entry ≡ sets entry 0 (bytesBy n (after space line at))
-        store-none zero i j l m = refl
-        store-none (suc zero) i j l m = absurd (i refl)
-        store-none (suc (suc zero)) i j l m = absurd (j refl)
-        store-none (suc (suc (suc zero))) i j l m = absurd (l refl)
-        store-none (suc (suc (suc (suc zero)))) i j l m = absurd (m refl)
-        store-none (suc (suc (suc (suc (suc n))))) i j l m = refl
+    line-unread i j l m q =
+        by-arity entry r (q ∙ rw (ne-eqb n 1 i, ne-eqb n 2 j, ne-eqb n 3 l, ne-eqb n 4 m)) (rw (ne-eqb n 4 m))
 
 -- where the first field ends, there is a place of the line
 pub first-within : (line : List ℕ) (at : ℕ) → at ≡ endAt space line 0 → at ≤ length line

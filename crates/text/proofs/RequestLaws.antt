@@ -1,8 +1,7 @@
 -- Laws of a request: its numbers read one after another, and a column's.
 -- Assumes nothing.
 use mathlib.Core.Path.{_≡_, refl, sym, _∙_}
-use mathlib.Core.List.{List, [], _∷_}
-use mathlib.Core.Logic.{_⊎_, inl, inr}
+use mathlib.Core.List.{List}
 use mathlib.Core.Option.{Option, none, some}
 use Prim.Native.Nat.{ℕ, _+_, _<_, _≤_}
 use native.Mathlib.Omega.{arith}
@@ -11,176 +10,74 @@ use lib.Seq.{sets}
 use Rattle.text.specs.declared.fields.Field.{Field}
 use Rattle.text.specs.declared.cells.Cells.{Cells}
 use Rattle.text.specs.declared.cells.Cells.the-variants as cells
-use Rattle.text.specs.declared.words.Word.{Word}
 use Rattle.text.specs.declared.words.Word.the-variants as word
 use Rattle.text.specs.declared.requests.Request.{Request}
 use Rattle.text.specs.Split.{space}
 use Rattle.text.specs.Number.{number}
-use Rattle.text.specs.Parse.{withFirst, each, one, two, three, small, both, column}
+use Rattle.text.specs.Parse.{withFirst, each, whenAll, andThen, noMore, small, both, column}
 use Rattle.text.specs.Places.{partAt, endAt, after, fieldBy}
 use Rattle.text.specs.Cells.{byteOf, counted, Stored}
-use Rattle.text.specs.Asked.{ifRead, columnBytes, ask, unreadable, orUnread, oneAsked, twoAsked, threeAsked, Columned}
+use Rattle.text.specs.Asked.{ifRead, columnBytes, ask, unreadable, orUnread, Columned}
 use Rattle.text.proofs.SplitLaws.{after-end, after-step}
 use Rattle.text.proofs.FieldLaws.{Took, took, Stuck, stuck, nothing-left, not-read}
 use Rattle.text.proofs.ColumnLaws.{number-below, small-below}
 
--- ---- the numbers after a place
+-- ---- the numbers after a place: q is what a function returns, `more` what the numbers after the next one make of it
 
-abbrev pub numbersAt : List ℕ → ℕ → Option (List ℕ)
+abbrev numbersAt : List ℕ → ℕ → Option (List ℕ)
 numbersAt line at = each number (after space line at)
 
--- no number more
-abbrev Short : Option (List ℕ) → Type 0
-Short o = (o ≡ none) ⊎ (o ≡ some [])
+-- the first number is handed on
+first-then : {A : Type 0} (more : ℕ → List ℕ → Option A) (a : ℕ) (o : Option (List ℕ))
+    → whenAll (andThen more) (withFirst (some a) o) ≡ whenAll (more a) o
+unfolding whenAll andThen withFirst
+first-then more a none = refl
+first-then more a (some l) = refl
+
+-- a field more is one too many
+first-ends : {A : Type 0} (x : A) (o : Option ℕ) (p : Option (List ℕ)) → whenAll (noMore x) (withFirst o p) ≡ none
+unfolding whenAll noMore withFirst
+first-ends x none p = refl
+first-ends x (some a) none = refl
+first-ends x (some a) (some l) = refl
 
 module _ (line : List ℕ) (at : ℕ) (r : Field) (e : r ≡ fieldBy number line at) where
-  numbers-stuck : 9999 < r .value → Short (numbersAt line at)
-  unfolding each withFirst
-  numbers-stuck h = go (stuck number 9999 number-below line at r e h)
-    where
-      go : Stuck number line at → Short (each number (after space line at))
-      go (nothing-left q) = inr (rw q)
-      go (not-read f fs q b) = inl (rw (q, b))
-
-  numbers-took : r .value ≤ 9999 → numbersAt line at ≡ withFirst (some (r .value)) (numbersAt line (r .next))
-  unfolding each
-  numbers-took h = let t = took number 9999 number-below line at r e h in rw (t .fields, t .is)
-
   pub next-within : r .value ≤ 9999 → r .next ≤ length line
   next-within h = took number 9999 number-below line at r e h .within
 
-numbers-end : (line : List ℕ) (at : ℕ) → length line ≤ at → numbersAt line at ≡ some []
-unfolding each
-numbers-end line at h = rw (after-end space line at h)
+  module _ (q : Request) (more : ℕ → List ℕ → Option Request) where
+    -- there is no next number
+    pub number-stuck : q ≡ unreadable → 9999 < r .value → q ≡ orUnread (whenAll (andThen more) (numbersAt line at))
+    unfolding each withFirst whenAll andThen orUnread
+    number-stuck u h = u ∙ go (stuck number 9999 number-below line at r e h)
+      where
+        go : Stuck number line at → unreadable ≡ orUnread (whenAll (andThen more) (each number (after space line at)))
+        go (nothing-left p) = rw p
+        go (not-read f fs p b) = rw (p, b)
 
-numbers-more : (line : List ℕ) (at : ℕ) → at < length line → numbersAt line at ≡ some [] → ⊥
-unfolding each withFirst
-numbers-more line at h e = go (number (partAt space line (at + 1))) (each number (after space line (endAt space line (at + 1)))) (rw (after-step space line at h) at e)
-  where
-    go : (o : Option ℕ) (p : Option (List ℕ)) → withFirst o p ≡ some [] → ⊥
-    go none p q = let z : _≡_ {A = ℕ} 0 1 = cc in omega arith
-    go (some x) none q = let z : _≡_ {A = ℕ} 0 1 = cc in omega arith
-    go (some x) (some l) q = let z : _≡_ {A = ℕ} 0 1 = cc in omega arith
+    -- there is one: the others make the rest of it
+    pub number-next : r .value ≤ 9999 → q ≡ orUnread (whenAll (more (r .value)) (numbersAt line (r .next)))
+        → q ≡ orUnread (whenAll (andThen more) (numbersAt line at))
+    unfolding each
+    number-next h g =
+        let t = took number 9999 number-below line at r e h in
+        rw (t .fields, t .is, first-then more (r .value) (numbersAt line (r .next))) g
 
--- ---- one number, two, three: too few, too many, as many as are wanted
+module _ (line : List ℕ) (at : ℕ) (x q : Request) where
+  -- a field too many
+  pub numbers-over : at < length line → q ≡ unreadable → q ≡ orUnread (whenAll (noMore x) (numbersAt line at))
+  unfolding each orUnread
+  numbers-over h u =
+      u
+      ∙ rw (
+        after-step space line at h,
+        first-ends x (number (partAt space line (at + 1))) (each number (after space line (endAt space line (at + 1)))),
+      )
 
-module _ {A : Type 0} (make : ℕ → A) where
-  one-short : (o : Option (List ℕ)) → Short o → one make o ≡ none
-  unfolding one
-  one-short o (inl e) = rw e
-  one-short o (inr e) = rw e
-
-  one-long : (a : ℕ) (o : Option (List ℕ)) → (o ≡ some [] → ⊥) → one make (withFirst (some a) o) ≡ none
-  unfolding one withFirst
-  one-long a none h = refl
-  one-long a (some []) h = absurd (h refl)
-  one-long a (some (b ∷ l)) h = refl
-
-module _ {A : Type 0} (make : ℕ → ℕ → A) where
-  two-short : (o : Option (List ℕ)) → Short o → two make o ≡ none
-  unfolding two
-  two-short o (inl e) = rw e
-  two-short o (inr e) = rw e
-
-  two-less : (a : ℕ) (o : Option (List ℕ)) → Short o → two make (withFirst (some a) o) ≡ none
-  unfolding two withFirst
-  two-less a o (inl e) = rw e
-  two-less a o (inr e) = rw e
-
-  two-long : (a b : ℕ) (o : Option (List ℕ)) → (o ≡ some [] → ⊥) → two make (withFirst (some a) (withFirst (some b) o)) ≡ none
-  unfolding two withFirst
-  two-long a b none h = refl
-  two-long a b (some []) h = absurd (h refl)
-  two-long a b (some (c ∷ l)) h = refl
-
-module _ {A : Type 0} (make : ℕ → ℕ → ℕ → A) where
-  three-short : (o : Option (List ℕ)) → Short o → three make o ≡ none
-  unfolding three
-  three-short o (inl e) = rw e
-  three-short o (inr e) = rw e
-
-  three-less : (a : ℕ) (o : Option (List ℕ)) → Short o → three make (withFirst (some a) o) ≡ none
-  unfolding three withFirst
-  three-less a o (inl e) = rw e
-  three-less a o (inr e) = rw e
-
-  three-two : (a b : ℕ) (o : Option (List ℕ)) → Short o → three make (withFirst (some a) (withFirst (some b) o)) ≡ none
-  unfolding three withFirst
-  three-two a b o (inl e) = rw e
-  three-two a b o (inr e) = rw e
-
-  three-long : (a b c : ℕ) (o : Option (List ℕ)) → (o ≡ some [] → ⊥) → three make (withFirst (some a) (withFirst (some b) (withFirst (some c) o))) ≡ none
-  unfolding three withFirst
-  three-long a b c none h = refl
-  three-long a b c (some []) h = absurd (h refl)
-  three-long a b c (some (d ∷ l)) h = refl
-
--- ---- the returns of the requests by numbers: q is a request that is unreadable
-
-module _ (w : Word) (line : List ℕ) (at : ℕ) (r : Field) (e : r ≡ fieldBy number line at) where
-  module _ (q : Request) (u : q ≡ unreadable) (h : 9999 < r .value) where
-    pub one-stuck : q ≡ oneAsked w (after space line at)
-    unfolding orUnread
-    one-stuck = u ∙ rw (one-short (λ a. ask w a 0 0) (numbersAt line at) (numbers-stuck line at r e h))
-
-    pub two-stuck : q ≡ twoAsked w (after space line at)
-    unfolding orUnread
-    two-stuck = u ∙ rw (two-short (λ a b. ask w a b 0) (numbersAt line at) (numbers-stuck line at r e h))
-
-    pub three-stuck : q ≡ threeAsked w (after space line at)
-    unfolding orUnread
-    three-stuck = u ∙ rw (three-short (λ a b c. ask w a b c) (numbersAt line at) (numbers-stuck line at r e h))
-
-  module _ (h : r .value ≤ 9999) where
-    pub one-more : (q : Request) → q ≡ unreadable → r .next < length line → q ≡ oneAsked w (after space line at)
-    unfolding orUnread
-    one-more q u k =
-        u ∙ rw (numbers-took line at r e h, one-long (λ a. ask w a 0 0) (r .value) (numbersAt line (r .next)) (numbers-more line (r .next) k))
-
-    pub one-is : length line ≤ r .next → ask w (r .value) 0 0 ≡ oneAsked w (after space line at)
-    unfolding orUnread one withFirst
-    one-is k = rw (numbers-took line at r e h, numbers-end line (r .next) k)
-
-    module _ (s : Field) (f : s ≡ fieldBy number line (r .next)) where
-      module _ (q : Request) (u : q ≡ unreadable) (g : 9999 < s .value) where
-        pub two-half : q ≡ twoAsked w (after space line at)
-        unfolding orUnread
-        two-half =
-            u ∙ rw (numbers-took line at r e h, two-less (λ a b. ask w a b 0) (r .value) (numbersAt line (r .next)) (numbers-stuck line (r .next) s f g))
-
-        pub three-half : q ≡ threeAsked w (after space line at)
-        unfolding orUnread
-        three-half =
-            u ∙ rw (numbers-took line at r e h, three-less (λ a b c. ask w a b c) (r .value) (numbersAt line (r .next)) (numbers-stuck line (r .next) s f g))
-
-      module _ (g : s .value ≤ 9999) where
-        pub two-more : (q : Request) → q ≡ unreadable → s .next < length line → q ≡ twoAsked w (after space line at)
-        unfolding orUnread
-        two-more q u k =
-            u
-            ∙ rw (numbers-took line at r e h, numbers-took line (r .next) s f g, two-long (λ a b. ask w a b 0) (r .value) (s .value) (numbersAt line (s .next)) (numbers-more line (s .next) k))
-
-        pub two-are : length line ≤ s .next → ask w (r .value) (s .value) 0 ≡ twoAsked w (after space line at)
-        unfolding orUnread two withFirst
-        two-are k = rw (numbers-took line at r e h, numbers-took line (r .next) s f g, numbers-end line (s .next) k)
-
-        module _ (t : Field) (l : t ≡ fieldBy number line (s .next)) where
-          pub three-part : (q : Request) → q ≡ unreadable → 9999 < t .value → q ≡ threeAsked w (after space line at)
-          unfolding orUnread
-          three-part q u i =
-              u
-              ∙ rw (numbers-took line at r e h, numbers-took line (r .next) s f g, three-two (λ a b c. ask w a b c) (r .value) (s .value) (numbersAt line (s .next)) (numbers-stuck line (s .next) t l i))
-
-          module _ (i : t .value ≤ 9999) where
-            pub three-more : (q : Request) → q ≡ unreadable → t .next < length line → q ≡ threeAsked w (after space line at)
-            unfolding orUnread
-            three-more q u k =
-                u
-                ∙ rw (numbers-took line at r e h, numbers-took line (r .next) s f g, numbers-took line (s .next) t l i, three-long (λ a b c. ask w a b c) (r .value) (s .value) (t .value) (numbersAt line (t .next)) (numbers-more line (t .next) k))
-
-            pub three-are : length line ≤ t .next → ask w (r .value) (s .value) (t .value) ≡ threeAsked w (after space line at)
-            unfolding orUnread three withFirst
-            three-are k = rw (numbers-took line at r e h, numbers-took line (r .next) s f g, numbers-took line (s .next) t l i, numbers-end line (t .next) k)
+  -- no more fields
+  pub numbers-all : length line ≤ at → x ≡ orUnread (whenAll (noMore x) (numbersAt line at))
+  unfolding each whenAll noMore orUnread
+  numbers-all h = rw (after-end space line at h)
 
 -- ---- the returns of the request of a column
 
@@ -231,6 +128,3 @@ module _ (line : List ℕ) (at : ℕ) (entry : List ℕ) (r : Field) (e : r ≡ 
           bytes-are = stored;
           request-is = rw (the .fields, the .is) (count-is s (each byteOf (after space line (r .next))) n (r .value) (g .count-is) k);
         }
-
-    pub column-next : r .next ≤ length line
-    column-next = the .within

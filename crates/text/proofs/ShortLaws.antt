@@ -4,23 +4,23 @@ use mathlib.Core.Path.{_≡_, refl, sym, ap, _∙_}
 use mathlib.Core.List.{List, [], _∷_}
 use mathlib.Core.Bool.{Bool, true, false, _&&_, _||_, cond, true≢false, and-eq-true-iff}
 use mathlib.Core.Logic.{_⊎_, inl, inr}
+use mathlib.Core.Option.{some}
 use Prim.Native.Nat.{ℕ, zero, suc, _+_, _-_, _*_, _/_, _%_, _<_, _≤_}
 use native.Mathlib.Omega.{arith}
-use borrow.Author.Tests.{eq-eqb, ne-eqb, eqb-true, eqb-false, le-leb}
+use borrow.Author.Tests.{eq-eqb, ne-eqb, eqb-true}
 use lib.Dec.{leb, eqb}
 use lib.ListN.{length, getD, set}
 use Rattle.bits.specs.Cases.{eq-cases, lt-cases}
-use Rattle.text.specs.declared.fields.Field.{Field}
 use Rattle.text.specs.declared.cells.Cells.the-variants as cells
 use Rattle.text.specs.Split.{space}
 use Rattle.text.specs.Number.{isDigit}
-use Rattle.text.specs.Places.{partAt, after, found, tag, firstBy, fieldBy}
-use Rattle.text.specs.Cells.{byteOf, Stored}
+use Rattle.text.specs.Places.{partAt, found, tag, firstBy, fieldBy}
+use Rattle.text.specs.Cells.{byteOf, Stored, Filling}
 use Rattle.text.specs.Short.{shortKnown, shortValue, turnedBytes, Turned, Short}
 use Rattle.text.proofs.SplitLaws.{part-end, part-here, part-step, after-step}
-use Rattle.text.proofs.CellLaws.{one-digit, one-dash}
+use Rattle.text.proofs.CellLaws.{byte-digit, byte-dash}
 use Rattle.text.proofs.NumberLaws.{digit-low, digit-high}
-use Rattle.text.proofs.ColumnLaws.{Filling, filling-none, filling-step, filling-end}
+use Rattle.text.proofs.ColumnLaws.{filling-none, filling-step, filling-end}
 
 -- ---- one byte
 
@@ -138,13 +138,13 @@ module _ (line : List ℕ) (start n before : ℕ) (h : start < length line) (q :
 
 module _ (line : List ℕ) (at b : ℕ) (h : at + 2 ≤ length line) (e : b ≡ getD line (at + 1) 0) (k : shortKnown b ≡ true)
     (s : at + 2 < length line → getD line (at + 2) 0 ≡ 32) where
-  byte-is : tag (byteOf (b ∷ [])) (at + 2) ≡ found (shortValue b) (at + 2)
+  byte-is : byteOf (b ∷ []) ≡ some (shortValue b)
   unfolding shortValue
   byte-is = go (eq-cases b 45)
     where
-      go : (b ≡ 45) ⊎ (b ≡ 45 → ⊥) → tag (byteOf (b ∷ [])) (at + 2) ≡ found (cond (eqb b 45) 255 (b - 48)) (at + 2)
-      go (inl z) = rw (eq-eqb b 45 z) (sym (one-dash b (at + 2) (isDigit b) refl z))
-      go (inr z) = rw (ne-eqb b 45 z) (sym (one-digit b (at + 2) (isDigit b) refl (b - 48) (digit-of b k z) refl))
+      go : (b ≡ 45) ⊎ (b ≡ 45 → ⊥) → byteOf (b ∷ []) ≡ some (cond (eqb b 45) 255 (b - 48))
+      go (inl z) = rw (eq-eqb b 45 z) (byte-dash b z)
+      go (inr z) = rw (ne-eqb b 45 z) (byte-digit b (digit-of b k z))
 
   rest-none : partAt space line (at + 1 + 1) ≡ []
   rest-none = go (lt-cases (at + 2) (length line))
@@ -158,10 +158,8 @@ module _ (line : List ℕ) (at b : ℕ) (h : at + 2 ≤ length line) (e : b ≡ 
       part-step space line (at + 1) (omega arith) (λ z. known-no-space b k (e ∙ z)) ∙ rw (rest-none) (ap (λ (x : ℕ). x ∷ []) (sym e))
 
   short-cell : found (shortValue b) (at + 2) ≡ fieldBy byteOf line at
-  unfolding fieldBy firstBy
-  short-cell =
-      let p : at + 1 + 1 ≡ at + 2 = omega arith in
-      rw (after-step space line at (omega arith), short-part, p) (sym byte-is)
+  unfolding fieldBy firstBy tag
+  short-cell = let p : at + 1 + 1 ≡ at + 2 = omega arith in rw (after-step space line at (omega arith), short-part, byte-is, p)
 
   value-low : shortValue b ≤ 255
   unfolding shortValue
@@ -173,26 +171,26 @@ module _ (line : List ℕ) (at b : ℕ) (h : at + 2 ≤ length line) (e : b ≡ 
 
 -- ---- the loop that stores them
 
-pub short-none : (line entry : List ℕ) (start : ℕ) → Filling line entry entry start (start + 2 * 0) 0
-short-none line entry start = let z : start + 2 * 0 ≡ start = omega arith in rw z (filling-none line entry start)
+pub short-none : (line entry : List ℕ) (start : ℕ) → Filling line start 0 entry entry (start + 2 * 0) 0
+short-none line entry start = let z : start + 2 * 0 ≡ start = omega arith in rw z (filling-none line entry start 0)
 
 pub short-known : (line : List ℕ) (start m k : ℕ) → Short line start → m ≡ (length line - start) / 2 → k < m
     → shortKnown (getD line (start + 2 * k + 1) 0) ≡ true
 short-known line start m k f q l = f .known k (omega (arith, f .even))
 
 module _ (line entry col : List ℕ) (start m k : ℕ) (f : Short line start) (q : m ≡ (length line - start) / 2) where
-  pub short-step : (v : ℕ) → Filling line entry col start (start + 2 * k) k → k < m → v ≡ shortValue (getD line (start + 2 * k + 1) 0)
-      → Filling line entry (set col k v) start (start + 2 * (k + 1)) (k + 1)
+  pub short-step : (v : ℕ) → Filling line start 0 entry col (start + 2 * k) k → k < m → v ≡ shortValue (getD line (start + 2 * k + 1) 0)
+      → Filling line start 0 entry (set col k v) (start + 2 * (k + 1)) (k + 1)
   short-step v g l e =
       let b : ℕ = getD line (start + 2 * k + 1) 0 in
       let n : start + 2 * k + 2 ≡ start + 2 * (k + 1) = omega arith in
       let w : start + 2 * k + 2 < length line → getD line (start + 2 * k + 2) 0 ≡ 32
       = λ z. ap (λ (x : ℕ). getD line x 0) n ∙ f .spaces (k + 1) (omega arith) in
-      let r : Filling line entry (set col k (shortValue b)) start (start + 2 * k + 2) (k + 1)
-      = filling-step line entry col start (start + 2 * k) k g (found (shortValue b) (start + 2 * k + 2))
+      let r : Filling line start 0 entry (set col k (shortValue b)) (start + 2 * k + 2) (k + 1)
+      = filling-step line entry col start 0 (start + 2 * k) k g (found (shortValue b) (start + 2 * k + 2))
       (short-cell line (start + 2 * k) b (omega (arith, f .even)) refl (short-known line start m k f q l) w)
       (value-low line (start + 2 * k) b (omega (arith, f .even)) refl (short-known line start m k f q l) w) in
       rw (e, ← n) r
 
-  pub short-end : Filling line entry col start (start + 2 * k) k → k ≤ m → m ≤ k → Stored line start entry col (cells.Count m)
+  pub short-end : Filling line start 0 entry col (start + 2 * k) k → k ≤ m → m ≤ k → Stored line start entry col (cells.Count m)
   short-end g h l = let z : m ≡ k = omega arith in rw z (filling-end line entry col start (start + 2 * k) k g (omega (arith, f .even)))

@@ -96,7 +96,8 @@ pub end-past : (s : ℕ) (line : List ℕ) (i : ℕ) → i ≤ endAt s line i
 unfolding endAt
 end-past s line i = omega arith
 
-take-more : (s b : ℕ) (l : List ℕ) (t : Bool) → eqb b s ≡ t → take (length (upTo s l)) l ≡ upTo s l → take (length (upTo s (b ∷ l))) (b ∷ l) ≡ upTo s (b ∷ l)
+take-more : (s b : ℕ) (l : List ℕ) (t : Bool) → eqb b s ≡ t → take (length (upTo s l)) l ≡ upTo s l
+    → take (length (upTo s (b ∷ l))) (b ∷ l) ≡ upTo s (b ∷ l)
 unfolding upTo
 take-more s b l true e h = rw e
 take-more s b l false e h = rw (e, h)

@@ -1,16 +1,15 @@
 -- Laws of bytes that are the same, and of the word that a field is.
 -- Assumes nothing.
-use mathlib.Core.Path.{_≡_, refl, sym, ap, _∙_}
+use mathlib.Core.Path.{_≡_, refl, sym, _∙_}
 use mathlib.Core.List.{List, [], _∷_}
-use mathlib.Core.Bool.{Bool, true, false}
+use mathlib.Core.Bool.{Bool, true, false, and-eq-true-iff}
 use Prim.Native.Nat.{ℕ}
 use borrow.Author.Tests.{eqb-true, eq-eqb}
 use lib.Dec.{eqb}
 use Rattle.bits.specs.Cases.{same-truth}
 use Rattle.text.specs.declared.words.Word.{Word}
 use Rattle.text.specs.Bytes.{same}
-use Rattle.text.specs.Words.{orWord, arityOf}
-use Rattle.text.proofs.NumberLaws.{both}
+use Rattle.text.specs.Words.{orWord}
 
 -- ---- the same bytes
 
@@ -25,7 +24,7 @@ same-eq [] [] h = refl
 same-eq [] (y ∷ ys) h = cc
 same-eq (x ∷ xs) [] h = cc
 same-eq (x ∷ xs) (y ∷ ys) h =
-    let e = both (eqb x y) (same xs ys) h in
+    let e = and-eq-true-iff (eqb x y) (same xs ys) .0 h in
     rw (eqb-true x y (e .0), same-eq xs ys (e .1))
 
 -- what `check::same` ensures says that its answer is `same`
@@ -41,6 +40,3 @@ here r b w v e h = rw (sym e ∙ h)
 pub past : (r b : Bool) (w v u : Word) → r ≡ b → r ≡ false → w ≡ v → w ≡ orWord b u v
 unfolding orWord
 past r b w v u e h g = rw (sym e ∙ h) g
-
-pub takes : (w v : Word) → w ≡ v → arityOf v ≡ arityOf w
-takes w v e = ap arityOf (sym e)

@@ -43,7 +43,8 @@ wholeLine false l = []
 pub record Feeds (entry : List ℕ) (len : ℕ) (bytes : List ℕ) (at : ℕ) (exit : List ℕ) (r : Fed) : Type 0 where
   pub lines-are : map (take (length entry)) (cut (take len entry) (drop at bytes))
       ≡ wholeLine (r .whole) (take (r .line) exit) ++ map (take (length entry)) (cut (take (r .len) exit) (drop (r .next) bytes))
-  pub pending-is : take (length entry) (pend (take len entry) (drop at bytes)) ≡ take (length entry) (pend (take (r .len) exit) (drop (r .next) bytes))
+  pub pending-is : take (length entry) (pend (take len entry) (drop at bytes))
+      ≡ take (length entry) (pend (take (r .len) exit) (drop (r .next) bytes))
   pub room : length exit ≡ length entry
   pub line-fits : r .line ≤ length entry
   pub len-fits : r .len ≤ length entry

@@ -29,29 +29,32 @@ module _ {A : Type 0} where
 -- ---- "Others take session, then row, then value, where they have them": one number, two or three, and no more
 
 module _ {A : Type 0} where
+  -- what the numbers make, where each field is one
+  unfoldable pub whenAll : (List ℕ → Option A) → Option (List ℕ) → Option A
+  whenAll make none = none
+  whenAll make (some l) = make l
+
+  -- a number, and then what the others make
+  unfoldable pub andThen : (ℕ → List ℕ → Option A) → List ℕ → Option A
+  andThen make [] = none
+  andThen make (a ∷ l) = make a l
+
+  -- no more numbers
+  unfoldable pub noMore : A → List ℕ → Option A
+  noMore x [] = some x
+  noMore x (a ∷ l) = none
+
   -- one number
-  unfoldable pub one : (ℕ → A) → Option (List ℕ) → Option A
-  one make none = none
-  one make (some []) = none
-  one make (some (a ∷ [])) = some (make a)
-  one make (some (a ∷ b ∷ l)) = none
+  abbrev pub one : (ℕ → A) → Option (List ℕ) → Option A
+  one make o = whenAll (andThen (λ a. noMore (make a))) o
 
   -- two numbers
-  unfoldable pub two : (ℕ → ℕ → A) → Option (List ℕ) → Option A
-  two make none = none
-  two make (some []) = none
-  two make (some (a ∷ [])) = none
-  two make (some (a ∷ b ∷ [])) = some (make a b)
-  two make (some (a ∷ b ∷ c ∷ l)) = none
+  abbrev pub two : (ℕ → ℕ → A) → Option (List ℕ) → Option A
+  two make o = whenAll (andThen (λ a. andThen (λ b. noMore (make a b)))) o
 
   -- three numbers
-  unfoldable pub three : (ℕ → ℕ → ℕ → A) → Option (List ℕ) → Option A
-  three make none = none
-  three make (some []) = none
-  three make (some (a ∷ [])) = none
-  three make (some (a ∷ b ∷ [])) = none
-  three make (some (a ∷ b ∷ c ∷ [])) = some (make a b c)
-  three make (some (a ∷ b ∷ c ∷ d ∷ l)) = none
+  abbrev pub three : (ℕ → ℕ → ℕ → A) → Option (List ℕ) → Option A
+  three make o = whenAll (andThen (λ a. andThen (λ b. andThen (λ c. noMore (make a b c))))) o
 
 -- ---- "`column C v v ..` takes `-` for absent; there a number above 254, C too, is 19."
 

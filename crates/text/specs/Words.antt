@@ -4,7 +4,8 @@ use mathlib.Core.Bool.{Bool, true, false}
 use mathlib.Core.List.{List}
 use Prim.Native.Nat.{ℕ}
 use Rattle.text.specs.declared.words.Word.{Word}
-use Rattle.text.specs.declared.words.Word.the-variants.{Column, Begin, Query, Read, Update, Delete, Insert, Commit, Tidy, Abort, Unknown}
+use Rattle.text.specs.declared.words.Word.the-variants.{Column, Begin, Query, Read, Update}
+use Rattle.text.specs.declared.words.Word.the-variants.{Delete, Insert, Commit, Tidy, Abort, Unknown}
 use Rattle.text.specs.Bytes.{bytes, same}
 
 -- the first word where the test holds, or the second

@@ -4,14 +4,13 @@ use crate::fields;
 use crate::fields::Field;
 ghost use mathlib.Core.Path.{_≡_};
 ghost use mathlib.Core.Bool.{true};
-ghost use mathlib.Core.List.{[], _∷_};
 ghost use Prim.Native.Nat.{_+_, _*_, _<_, _≤_};
 ghost use lib.ListN.{length};
 ghost use Rattle.text.specs.Bytes.{bytes, same};
 ghost use Rattle.text.specs.Split.{space};
 ghost use Rattle.text.specs.Parse.{small};
-ghost use Rattle.text.specs.Places.{partAt, fieldBy, tag};
-ghost use Rattle.text.specs.Cells.{byteOf, Stored};
+ghost use Rattle.text.specs.Places.{partAt, fieldBy};
+ghost use Rattle.text.specs.Cells.{byteOf, Stored, Near, Ran};
 ghost use Rattle.text.specs.Short.{shortKnown, shortValue, turnedBytes, Turned, Short};
 
 // How many values a column has.
@@ -52,41 +51,6 @@ fn dash_at(line: &[u8], at: usize) -> bool
     false
 }
 
-// The cell of a field of one byte, with the place after it.
-fn cell_of_one(b: u8, next: usize) -> Field
-    ensures { λ r. ⌜ r ≡ tag (byteOf (b ∷ [])) next ⌝ }
-{
-    if fields::is_digit(b) {
-        return Field {
-            value: fields::digit(b),
-            next: next,
-        };
-    }
-    if b == 45 {
-        return Field {
-            value: 255,
-            next: next,
-        };
-    }
-    fields::nothing_read()
-}
-
-// The cell of a field of two bytes, with the place after it.
-fn cell_of_two(a: u8, b: u8, next: usize) -> Field
-    ensures { λ r. ⌜ r ≡ tag (byteOf (a ∷ b ∷ [])) next ⌝ }
-{
-    if !fields::is_digit(a) {
-        return fields::nothing_read();
-    }
-    if !fields::is_digit(b) {
-        return fields::nothing_read();
-    }
-    Field {
-        value: fields::digit(a) * 10 + fields::digit(b),
-        next: next,
-    }
-}
-
 // A cell after the space at `at`, of any length.
 fn long_cell(line: &[u8], at: usize) -> Field
     requires { ⌜ at < length (now line) ⌝ }
@@ -101,22 +65,75 @@ fn long_cell(line: &[u8], at: usize) -> Field
     small_at(line, at)
 }
 
-// A cell after the space at `at`: a number up to 254, or `-` for 255.
-fn cell_at(line: &[u8], at: usize) -> Field
-    requires { ⌜ at < length (now line) ⌝ }
-    ensures { λ r. ⌜ r ≡ fieldBy byteOf (now (line .entry)) at ⌝ }
+// A byte as a number.
+fn wide(b: u8) -> u32
+    ensures { λ r. ⌜ r ≡ b ⌝ }
 {
-    if line.len() <= at + 3 {
-        return long_cell(line, at);
-    }
+    b as u32
+}
+
+// What two bytes say where both are digits: below 100 exactly where they are, if the second is one.
+fn two_value(a: u8, b: u8) -> u32
+    ensures { λ r. ⌜ (r ≤ 99 → r + 528 ≡ a * 10 + b) ⌝ }
+{
+    std::num::wrapping_sub_u32(wide(a) * 10 + wide(b), 528)
+}
+
+// A cell of one digit or two between the space at `at` and a next one; nothing where none is told at once.
+fn near_cell(line: &[u8], at: usize) -> Field
+    requires { ⌜ at + 3 < length (now line) ⌝ }
+    ensures { λ r. ⌜ Near (now (line .entry)) at r ⌝ }
+{
+    let a = line[at + 1];
     let b = line[at + 2];
-    if b == 32 {
-        return cell_of_one(line[at + 1], at + 2);
+    if fields::is_digit(b) {
+        if line[at + 3] != 32 {
+            return fields::nothing_read();
+        }
+        let x = two_value(a, b);
+        if 99 < x {
+            return fields::nothing_read();
+        }
+        return Field {
+            value: fields::wide(x as u8),
+            next: at + 3,
+        };
     }
-    if line[at + 3] == 32 {
-        return cell_of_two(line[at + 1], b, at + 3);
+    if b != 32 {
+        return fields::nothing_read();
     }
-    long_cell(line, at)
+    if fields::is_digit(a) {
+        return Field {
+            value: fields::digit(a),
+            next: at + 2,
+        };
+    }
+    fields::nothing_read()
+}
+
+// A place in a line, and how many cells stand before it.
+pub struct Run {
+    pub at: usize,
+    pub n: usize,
+}
+
+// Such cells after the space at `start`, into `column` after its first k, up to one that is none.
+fn run_into(line: &[u8], start: usize, column: &mut [u8], k: usize) -> Run
+    requires { ⌜ (start < length (now line)) × (length (now line) + 2 * k ≤ start + 2 * length (now column)) ⌝ }
+    ensures { λ r. ⌜ Ran (now (line .entry)) start k (now (column .entry)) (now (column .exit)) r ⌝ }
+{
+    let mut at = start;
+    let mut n = k;
+    while at + 3 < line.len() {
+        let cell = near_cell(line, at);
+        if 255 < cell.value {
+            return Run { at: at, n: n };
+        }
+        column[n] = cell.value as u8;
+        n += 1;
+        at = cell.next;
+    }
+    Run { at: at, n: n }
 }
 
 // The cells after the space at `start`, into `column`: each takes two bytes of the line at least.
@@ -127,12 +144,14 @@ fn cells_into(line: &[u8], start: usize, column: &mut [u8]) -> Cells
     let mut at = start;
     let mut n: usize = 0;
     while at < line.len() {
-        let cell = cell_at(line, at);
+        let run = run_into(line, at, column, n);
+        let cell = long_cell(line, run.at);
         if 255 < cell.value {
             return Cells::Bad;
         }
-        column[n] = cell.value as u8;
-        n += 1;
+        let m = run.n;
+        column[m] = cell.value as u8;
+        n = m + 1;
         at = cell.next;
     }
     Cells::Count(n)

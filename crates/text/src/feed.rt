@@ -26,7 +26,8 @@ fn has_newline(bytes: &[u8]) -> bool
 // A place from which the line ends where it does from `from`: blocks of 64 bytes without a newline are passed over.
 fn blocks_from(bytes: &[u8], from: usize) -> usize
     requires { ⌜ from ≤ length (now bytes) ⌝ }
-    ensures { λ r. ⌜ (r ≤ length (now (bytes .entry))) × (endAt newline (now (bytes .entry)) from ≡ endAt newline (now (bytes .entry)) r) ⌝ }
+    ensures { λ r. ⌜ (r ≤ length (now (bytes .entry)))
+        × (endAt newline (now (bytes .entry)) from ≡ endAt newline (now (bytes .entry)) r) ⌝ }
 {
     let n = bytes.len();
     let mut i = from;

@@ -45,6 +45,13 @@ pub fn is_digit(b: u8) -> bool
     (48 <= b) & (b <= 57)
 }
 
+// A byte as a number.
+pub fn wide(b: u8) -> u64
+    ensures { λ r. ⌜ r ≡ b ⌝ }
+{
+    b as u64
+}
+
 // What a digit says.
 pub fn digit(b: u8) -> u64
     requires { ⌜ isDigit b ≡ true ⌝ }

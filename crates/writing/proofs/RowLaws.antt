@@ -1,7 +1,7 @@
 -- Laws of the rows of a vector, a word at a time, and from one set bit of a word to the next.
 -- Assumes nothing.
 use mathlib.Core.Path.{_≡_, refl, sym, ap, ap₂, _∙_}
-use mathlib.Core.List.{List, [], _∷_, _++_, append-assoc, append-nil, map}
+use mathlib.Core.List.{List, [], _∷_, _++_, append-assoc, append-nil, map, map-append}
 use mathlib.Core.Bool.{Bool, true, false, cond, true≢false}
 use mathlib.Core.Logic.{_⊎_, inl, inr}
 use Prim.Native.Nat.{ℕ, zero, suc, _+_, _-_, _*_, _/_, _%_, _^_, _<_, _≤_, min}
@@ -21,14 +21,10 @@ use Rattle.bits.specs.Scan.{tz-bit}
 use Rattle.rules.specs.Calls.{ok, listed}
 use Rattle.text.specs.Show.{spaced, show}
 use Rattle.writing.specs.Wrote.{Wrote, Answered, fieldOf, wordRows}
-use Rattle.writing.proofs.ShowLaws.{decimal-fits, spaced-append, spaced-one}
-use Rattle.writing.proofs.WroteLaws.{sets-append, wrote-then, field-far, ok-then}
+use Rattle.writing.proofs.ShowLaws.{decimal-fits, spaced-append}
+use Rattle.writing.proofs.WroteLaws.{sets-append, wrote-then, ok-then}
 
 -- ---- rows in two parts
-
-map-append : (m : ℕ) (a b : List ℕ) → map (λ k. m + k) (a ++ b) ≡ map (λ k. m + k) a ++ map (λ k. m + k) b
-map-append m [] b = refl
-map-append m (x ∷ a) b = rw (map-append m a b)
 
 map-one : (m n : ℕ) (t : Bool) → map (λ k. m + k) (cond t (n ∷ []) []) ≡ cond t ((m + n) ∷ []) []
 map-one m n true = refl
@@ -38,7 +34,7 @@ pub rows-split : (f : ℕ → Bool) (m n : ℕ) → rowsBelow f (m + n) ≡ rows
 unfolding rowsBelow
 rows-split f m zero = rw (add-zero m, append-nil (rowsBelow f m))
 rows-split f m (suc n) =
-    rw (add-suc m n, map-append m (rowsBelow (λ k. f (m + k)) n) (cond (f (m + n)) (n ∷ []) []), map-one m n (f (m + n)))
+    rw (add-suc m n, map-append (λ k. m + k) (rowsBelow (λ k. f (m + k)) n) (cond (f (m + n)) (n ∷ []) []), map-one m n (f (m + n)))
     (ap (λ (l : List ℕ). l ++ cond (f (m + n)) ((m + n) ∷ []) []) (rows-split f m n)
     ∙ append-assoc (rowsBelow f m) (map (λ k. m + k) (rowsBelow (λ k. f (m + k)) n)) (cond (f (m + n)) ((m + n) ∷ []) []))
 
@@ -70,7 +66,8 @@ lowest (suc n) x h p = go (x % 2) refl (omega arith) (lowest n (x / 2) (half (rw
         let b : bitAnd x (x - 1) / 2 ≡ h = omega arith in
         rows-step (bitAnd x (x - 1)) n ∙ rw (a, b)
 
-    go : (d : ℕ) → x % 2 ≡ d → d < 2 → (0 < x / 2 → rowsBelow (bit (x / 2)) n ≡ trailingZeros n (x / 2) ∷ rowsBelow (bit (bitAnd (x / 2) (x / 2 - 1))) n)
+    go : (d : ℕ) → x % 2 ≡ d → d < 2
+        → (0 < x / 2 → rowsBelow (bit (x / 2)) n ≡ trailingZeros n (x / 2) ∷ rowsBelow (bit (bitAnd (x / 2) (x / 2 - 1))) n)
         → rowsBelow (bit x) (suc n) ≡ under d (trailingZeros n (x / 2)) ∷ rowsBelow (bit (bitAnd x (x - 1))) (suc n)
     go zero e l ih =
         let a : (x - 1) / 2 ≡ x / 2 - 1 = omega arith in
@@ -122,26 +119,28 @@ rowing-none d start w base h = record { list-is = refl; place-is = refl; room = 
 
 module _ (entry out : List ℕ) (start at w base x : ℕ) (g : Rowing entry out start at w base x) where
   module _ (some : x ≡ 0 → ⊥) where
-    pub row-lt : trailingZeros 64 x < 64
-    row-lt = lowest-lt 64 x (g .low) some
+    pub row-lt : base + 64 ≤ 10000 → base + trailingZeros 64 x < 10000
+    row-lt b = omega (arith, lowest-lt 64 x (g .low) some)
 
-    pub row-room : at + 5 ≤ start + 320
-    row-room = omega (arith, g .left, ap length (word-first x base (g .low) some))
+    pub row-room : start + 320 ≤ length entry → at + 5 ≤ length out
+    row-room h = omega (arith, g .left, g .room, ap length (word-first x base (g .low) some))
 
     pub row-less : length (wordRows (bitAnd x (x - 1)) base) < length (wordRows x base)
     row-less = omega (arith, ap length (word-first x base (g .low) some))
 
-    pub rowing-step : (n r : ℕ) (f : List ℕ) → base + 64 ≤ 10000 → n ≡ base + trailingZeros 64 x → Wrote out at (fieldOf n) f r → Rowing entry f start r w base (bitAnd x (x - 1))
+    pub rowing-step : (n r : ℕ) (f : List ℕ) → base + 64 ≤ 10000 → n ≡ base + trailingZeros 64 x → Wrote out at (fieldOf n) f r
+        → Rowing entry f start r w base (bitAnd x (x - 1))
     unfolding spaced
     rowing-step n r f b e v =
         let rest = wordRows (bitAnd x (x - 1)) base in
         let s : wordRows x base ≡ n ∷ rest = word-first x base (g .low) some ∙ rw e in
-        let k : length (spaced (wordRows x base)) ≡ length (fieldOf n) + length (spaced rest) = ap (λ (l : List ℕ). length (spaced l)) s ∙ length-append (fieldOf n) (spaced rest) in
+        let k : length (spaced (wordRows x base)) ≡ length (fieldOf n) + length (spaced rest)
+        = ap (λ (l : List ℕ). length (spaced l)) s ∙ length-append (fieldOf n) (spaced rest) in
         record {
           list-is = g .list-is ∙ rw (s, v .list-is, v .place-is) (sets-append (fieldOf n) (spaced rest) out at);
           place-is = g .place-is ∙ omega (arith, k, v .place-is);
           room = v .room ∙ g .room;
-          left = omega (arith, g .left, ap length s, row-far out f at n r v (omega (arith, row-lt)));
+          left = omega (arith, g .left, ap length s, row-far out f at n r v (omega (arith, row-lt b)));
           low = omega (arith, g .low, and-le-l x (x - 1));
         }
 
@@ -177,14 +176,17 @@ worded-none ws entry start =
     record { wrote = record { list-is = refl; place-is = omega arith; room = refl }; far = omega arith }
 
 module _ (ws entry out : List ℕ) (start at i : ℕ) (g : Worded ws entry out start at i) where
-  pub worded-step : (w base r : ℕ) (f : List ℕ) → w ≡ getD ws i 0 → base ≡ i * 64 → (Wrote out at (spaced (wordRows w base)) f r) × (r ≤ at + 320)
+  pub worded-step : (w base r : ℕ) (f : List ℕ) → w ≡ getD ws i 0 → base ≡ i * 64
+      → (Wrote out at (spaced (wordRows w base)) f r) × (r ≤ at + 320)
       → Worded ws entry f start r (i + 1)
   worded-step w base r f e b v =
-      let u : Wrote out at (spaced (wordRows (getD ws i 0) (i * 64))) f r = rw (e, b) at (v .0) in
+      let before = rowsBelow (bitAt ws) (i * 64) in
+      let word = wordRows (getD ws i 0) (i * 64) in
+      let u : Wrote out at (spaced word) f r = rw (e, b) at (v .0) in
       record {
         wrote =
-            rw (word-all ws i, spaced-append (rowsBelow (bitAt ws) (i * 64)) (wordRows (getD ws i 0) (i * 64)))
-            (wrote-then entry (spaced (rowsBelow (bitAt ws) (i * 64))) out (spaced (wordRows (getD ws i 0) (i * 64))) f start at r (g .wrote) u);
+            rw (word-all ws i, spaced-append before word)
+            (wrote-then entry (spaced before) out (spaced word) f start at r (g .wrote) u);
         far = omega (arith, g .far, v .1);
       }
 
@@ -198,16 +200,15 @@ count-rows : (ws : List ℕ) → countOf ws ≡ length (rowsOf ws)
 unfolding countOf rowsOf
 count-rows ws = sym (length-rows (bitAt ws) (length ws * 64))
 
-pub query-rows : (ws d e f g : List ℕ) (flips due n j : ℕ) (t : Bool) (m k r : ℕ) → due ≡ cond t 1 0 → n ≡ j → j ≡ countOf ws → n < 2 ^ 32
-    → Answered d (ok (flips ∷ due ∷ [])) e m 24 → Wrote e m (fieldOf n) f k → (Wrote f k (spaced (rowsOf ws)) g r) × (r ≤ k + 320 * length ws)
+pub query-rows : (ws d e g : List ℕ) (flips due n j : ℕ) (t : Bool) (m r : ℕ) → due ≡ cond t 1 0 → n ≡ j → j ≡ countOf ws
+    → Answered d (ok (flips ∷ due ∷ n ∷ [])) e m 35 → (Wrote e m (spaced (rowsOf ws)) g r) × (r ≤ m + 320 * length ws)
     → Answered d (listed flips t (rowsOf ws)) g r (35 + 320 * length ws)
 unfolding show
-query-rows ws d e f g flips due n j t m k r p i q h u v w =
+query-rows ws d e g flips due n j t m r p i q u w =
     let c : n ≡ length (rowsOf ws) = i ∙ q ∙ count-rows ws in
-    let a : Wrote d 0 (show (ok (flips ∷ due ∷ n ∷ []))) f k = ok-then (flips ∷ due ∷ []) (n ∷ []) d e f m k (u .wrote) (rw (spaced-one n) v) in
     record {
-      wrote = rw (← c, ← p) (ok-then (flips ∷ due ∷ n ∷ []) (rowsOf ws) d f g k r a (w .0));
-      short = omega (arith, u .short, field-far e f m n k v h, w .1);
+      wrote = rw (← c, ← p) (ok-then (flips ∷ due ∷ n ∷ []) (rowsOf ws) d e g m r (u .wrote) (w .0));
+      short = omega (arith, u .short, w .1);
     }
 
 pub count-small : (ws : List ℕ) (n : ℕ) → n ≡ countOf ws → length ws ≤ 32 → n ≤ 2048

@@ -49,26 +49,24 @@ decimal-fits (suc k) n h = go (lt-cases n 10) (decimal-fits k (n / 10) (shorter 
     go : (n < 10) ⊎ (10 ≤ n) → length (decimal (n / 10)) ≤ suc k → length (decimal n) ≤ suc (suc k)
     go (inl l) r = let e : length (decimal n) ≡ 1 = ap length (decimal-digit n l) in omega arith
     go (inr l) r =
-        let e : length (decimal n) ≡ length (decimal (n / 10)) + 1 = ap length (decimal-more n l) ∙ length-append (decimal (n / 10)) ((48 + n % 10) ∷ []) in
-        omega arith
+        omega (arith, ap length (decimal-more n l), length-append (decimal (n / 10)) ((48 + n % 10) ∷ []))
 
 -- ---- two digits, three, four, and four more
 
 module _ (n : ℕ) where
   pub decimal-2 : 10 ≤ n → n < 100 → decimal n ≡ twoDigits n
-  unfolding twoDigits
   decimal-2 l h = rw (decimal-more n l, decimal-digit (n / 10) (omega arith))
 
   pub decimal-3 : 100 ≤ n → n < 1000 → decimal n ≡ (48 + n / 100) ∷ twoDigits (n % 100)
-  unfolding twoDigits
   decimal-3 l h =
       let a : n / 10 / 10 ≡ n / 100 = omega arith in
       let b : n / 10 % 10 ≡ n % 100 / 10 = omega arith in
       let c : n % 10 ≡ n % 100 % 10 = omega arith in
       rw (decimal-more n (omega arith), decimal-more (n / 10) (omega arith), decimal-digit (n / 10 / 10) (omega arith), a, b, c)
 
-  four-more : (l : List ℕ) → (((l ++ ((48 + n / 10 / 10 / 10 % 10) ∷ [])) ++ ((48 + n / 10 / 10 % 10) ∷ [])) ++ ((48 + n / 10 % 10) ∷ [])) ++ ((48 + n % 10) ∷ []) ≡ l ++ fourDigits (n % 10000)
-  unfolding fourDigits twoDigits
+  four-more : (l : List ℕ)
+      → (((l ++ ((48 + n / 10 / 10 / 10 % 10) ∷ [])) ++ ((48 + n / 10 / 10 % 10) ∷ [])) ++ ((48 + n / 10 % 10) ∷ []))
+      ++ ((48 + n % 10) ∷ []) ≡ l ++ fourDigits (n % 10000)
   four-more l =
       let a : n / 10 / 10 / 10 % 10 ≡ n % 10000 / 100 / 10 = omega arith in
       let b : n / 10 / 10 % 10 ≡ n % 10000 / 100 % 10 = omega arith in
@@ -76,18 +74,23 @@ module _ (n : ℕ) where
       let d : n % 10 ≡ n % 10000 % 100 % 10 = omega arith in
       rw (a, b, c, d) (simp append-assoc)
 
+  -- the last three digits
+  three-last : 1000 ≤ n
+      → decimal n ≡ ((decimal (n / 10 / 10 / 10) ++ ((48 + n / 10 / 10 % 10) ∷ [])) ++ ((48 + n / 10 % 10) ∷ [])) ++ ((48 + n % 10) ∷ [])
+  three-last l = rw (decimal-more n (omega arith), decimal-more (n / 10) (omega arith), decimal-more (n / 10 / 10) (omega arith))
+
   pub decimal-large : 10000 ≤ n → decimal n ≡ decimal (n / 10000) ++ fourDigits (n % 10000)
   decimal-large l =
       let e : n / 10 / 10 / 10 / 10 ≡ n / 10000 = omega arith in
-      rw (decimal-more n (omega arith), decimal-more (n / 10) (omega arith), decimal-more (n / 10 / 10) (omega arith), decimal-more (n / 10 / 10 / 10) (omega arith), e)
-      (four-more (decimal (n / 10000)))
+      three-last (omega arith) ∙ rw (decimal-more (n / 10 / 10 / 10) (omega arith), e) (four-more (decimal (n / 10000)))
 
   pub decimal-4 : 1000 ≤ n → n < 10000 → decimal n ≡ fourDigits n
   decimal-4 l h =
       let e : n / 10 / 10 / 10 ≡ n / 10 / 10 / 10 % 10 = omega arith in
       let m : n % 10000 ≡ n = omega arith in
-      rw (decimal-more n (omega arith), decimal-more (n / 10) (omega arith), decimal-more (n / 10 / 10) (omega arith), decimal-digit (n / 10 / 10 / 10) (omega arith))
-      (ap (λ (k : ℕ). ((((48 + k) ∷ []) ++ ((48 + n / 10 / 10 % 10) ∷ [])) ++ ((48 + n / 10 % 10) ∷ [])) ++ ((48 + n % 10) ∷ [])) e ∙ four-more [] ∙ ap fourDigits m)
+      three-last l ∙ rw (decimal-digit (n / 10 / 10 / 10) (omega arith))
+      (ap (λ (k : ℕ). ((((48 + k) ∷ []) ++ ((48 + n / 10 / 10 % 10) ∷ [])) ++ ((48 + n / 10 % 10) ∷ [])) ++ ((48 + n % 10) ∷ [])) e
+      ∙ four-more [] ∙ ap fourDigits m)
 
 -- ---- numbers after spaces
 

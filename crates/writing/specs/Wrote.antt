@@ -26,11 +26,11 @@ pub record Answered (entry : List ℕ) (answer : Answer) (exit : List ℕ) (r mo
   pub short : r ≤ most
 
 -- the digits of a number below 100, a leading zero too
-unfoldable pub twoDigits : ℕ → List ℕ
+abbrev pub twoDigits : ℕ → List ℕ
 twoDigits n = (48 + n / 10) ∷ (48 + n % 10) ∷ []
 
 -- the digits of a number below 10,000, leading zeros too
-unfoldable pub fourDigits : ℕ → List ℕ
+abbrev pub fourDigits : ℕ → List ℕ
 fourDigits n = twoDigits (n / 100) ++ twoDigits (n % 100)
 
 -- the text of the numbers below 100, two digits each

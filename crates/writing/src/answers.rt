@@ -7,7 +7,6 @@ ghost use Prim.Native.Nat.{_<_, _≤_};
 ghost use lib.ListN.{length};
 ghost use Rattle.rules.specs.Calls.{refused, ok, value};
 ghost use Rattle.text.specs.Split.{newline};
-ghost use Rattle.text.specs.Show.{show};
 ghost use Rattle.writing.specs.Wrote.{Wrote, Answered};
 
 // `no` and a number.
@@ -23,7 +22,7 @@ pub fn put_no(out: &mut [u8], n: u32) -> usize
 // `ok`.
 fn put_ok(out: &mut [u8]) -> usize
     requires { ⌜ 2 ≤ length (now out) ⌝ }
-    ensures { λ r. ⌜ Wrote (now (out .entry)) 0 (show (ok [])) (now (out .exit)) r ⌝ }
+    ensures { λ r. ⌜ Answered (now (out .entry)) (ok []) (now (out .exit)) r 2 ⌝ }
 {
     let next = numbers::put_byte(out, 0, b'o');
     numbers::put_byte(out, next, b'k')
@@ -45,6 +44,15 @@ pub fn put_ok_two(out: &mut [u8], x: u32, y: u32) -> usize
 {
     let next = put_ok_one(out, x);
     numbers::put_field(out, next, y)
+}
+
+// `ok` and three numbers.
+pub fn put_ok_three(out: &mut [u8], x: u32, y: u32, z: u32) -> usize
+    requires { ⌜ 35 ≤ length (now out) ⌝ }
+    ensures { λ r. ⌜ Answered (now (out .entry)) (ok (x ∷ y ∷ z ∷ [])) (now (out .exit)) r 35 ⌝ }
+{
+    let next = put_ok_two(out, x, y);
+    numbers::put_field(out, next, z)
 }
 
 // `ok -`.

@@ -39,7 +39,8 @@ fn put_word(out: &mut [u8], start: usize, word: u64, base: u32, text: &[u8]) -> 
 // The rows of a vector, ascending, each after a space.
 fn put_rows(out: &mut [u8], start: usize, vector: &[u64], text: &[u8]) -> usize
     requires { ⌜ (length (now vector) ≤ 32) × (start + 320 * length (now vector) ≤ length (now out)) × (now text ≡ pairs) ⌝ }
-    ensures { λ r. ⌜ (Wrote (now (out .entry)) start (spaced (rowsOf (now (vector .entry)))) (now (out .exit)) r) × (r ≤ start + 320 * length (now (vector .entry))) ⌝ }
+    ensures { λ r. ⌜ (Wrote (now (out .entry)) start (spaced (rowsOf (now (vector .entry)))) (now (out .exit)) r)
+        × (r ≤ start + 320 * length (now (vector .entry))) ⌝ }
 {
     let mut at = start;
     let mut i: usize = 0;
@@ -60,11 +61,11 @@ fn number_of(b: bool) -> u32
 // `ok`, the flip count, due, the number of rows and the rows.
 pub fn put_queried(out: &mut [u8], flips: u32, due: bool, vector: &[u64]) -> usize
     requires { ⌜ (length (now vector) ≤ 32) × (35 + 320 * length (now vector) ≤ length (now out)) ⌝ }
-    ensures { λ r. ⌜ Answered (now (out .entry)) (listed flips due (rowsOf (now (vector .entry)))) (now (out .exit)) r (35 + 320 * length (now (vector .entry))) ⌝ }
+    ensures { λ r. ⌜ Answered (now (out .entry)) (listed flips due (rowsOf (now (vector .entry)))) (now (out .exit)) r
+        (35 + 320 * length (now (vector .entry))) ⌝ }
 {
     let n = bits::narrow(bits::count(vector));
-    let head = answers::put_ok_two(out, flips, number_of(due));
-    let next = numbers::put_field(out, head, n);
+    let next = answers::put_ok_three(out, flips, number_of(due), n);
     let text =
         b"0001020304050607080910111213141516171819202122232425262728293031323334353637383940414243444546474849\
           5051525354555657585960616263646566676869707172737475767778798081828384858687888990919293949596979899";

@@ -3,64 +3,19 @@
 use mathlib.Core.Path.{_≡_}
 use Prim.Native.Nat.{_+_, _-_, _*_, _/_, _≤_}
 use native.Mathlib.Omega.{arith}
+use borrow.Author.Needs.{needs}
 use lib.ListN.{length}
 use Rattle.text.proofs.ShortLaws.{short-none, short-known, short-step, short-end}
-use Rattle.text.proofs.ColumnLaws.{Filling}
+use Rattle.text.specs.Cells.{Filling}
 use Rattle.text.proofs.cells.short_into.Statement.{statement}
 use Rattle.text.proofs.cells.short_into.Tie as tie
 
 abbrev Inv-loop : tie.InvT-loop
-Inv-loop line start column₀ m k₀ column k = (k ≤ m) × (m ≡ (length line - start) / 2) × Filling line column₀ column start (start + 2 * k) k
+Inv-loop line start column₀ m k₀ column k =
+    (k ≤ m) × (m ≡ (length line - start) / 2) × Filling line start 0 column₀ column (start + 2 * k) k
 
 abbrev μ-loop : tie.MeasureT-loop
 μ-loop line start column₀ m k₀ column k = m - k
-
-sub-m : tie.Need-sub-m Inv-loop μ-loop
-sub-m c = omega (arith, c .before .before .pre .1 .even)
-
-loop-holds : tie.Need-loop-holds Inv-loop μ-loop
-loop-holds c = (omega arith, omega arith, short-none _ _ _)
-
-mul-short-value : tie.Need-mul-short-value Inv-loop μ-loop
-mul-short-value c = omega (arith, c .before .before .before .before .pre .1 .even)
-
-add-short-value : tie.Need-add-short-value Inv-loop μ-loop
-add-short-value c = omega (arith, c .before .before .before .before .pre .1 .even)
-
-add-short-value-2 : tie.Need-add-short-value-2 Inv-loop μ-loop
-add-short-value-2 c = omega (arith, c .before .before .before .before .pre .1 .even)
-
-shared-slice-read-short-value : tie.Need-shared-slice-read-short-value Inv-loop μ-loop
-shared-slice-read-short-value c = omega (arith, c .before .before .before .before .before .pre .1 .even)
-
-short-value-requires : tie.Need-short-value-requires Inv-loop μ-loop
-short-value-requires c κs = short-known _ _ _ _ (c .before .before .before .before .before .pre .1) (c .before .before .loop .inv .1)
-    (omega arith)
-
-slice-write-column : tie.Need-slice-write-column Inv-loop μ-loop
-slice-write-column c = omega
-    (arith, c .before .before .before .before .before .before .pre .1 .even, c .before .before .before .loop .inv .2 .room)
-
-add-k : tie.Need-add-k Inv-loop μ-loop
-add-k c = omega arith
-
-loop-less : tie.Need-loop-less Inv-loop μ-loop
-loop-less c = omega arith
-
-loop-again : tie.Need-loop-again Inv-loop μ-loop
-loop-again c = (
-  omega arith,
-  omega arith,
-  short-step _ _ _ _ _ _ (c .before .before .before .before .before .before .pre .1)
-      (c .before .before .before .loop .inv .1) _ (c .before .before .before .loop .inv .2) (omega arith) (c .short-value .ensures),
-)
-
-same-length : tie.Need-same-length Inv-loop μ-loop
-same-length c = c .before .loop .inv .2 .room
-
-returns : tie.Need-returns Inv-loop μ-loop
-returns c = short-end _ _ _ _ _ _ (c .before .before .before .before .pre .1) (c .before .loop .inv .1) (c .before .loop .inv .2)
-    (omega arith) (omega arith)
 
 pub short-into-spec : {M : Type 1} → statement M
 short-into-spec =
@@ -68,16 +23,16 @@ short-into-spec =
     (tie.spec
     Inv-loop
     μ-loop
-    sub-m
-    loop-holds
-    mul-short-value
-    add-short-value
-    add-short-value-2
-    shared-slice-read-short-value
-    short-value-requires
-    slice-write-column
-    add-k
-    loop-less
-    loop-again
-    same-length
-    returns)
+    (λ c. search needs)
+    (λ c. (omega arith, omega arith, short-none _ _ _))
+    (λ c. search needs)
+    (λ c. search needs)
+    (λ c. search needs)
+    (λ c. search needs)
+    (λ c κs. search short-known)
+    (λ c. search needs)
+    (λ c. search needs)
+    (λ c. search needs)
+    (λ c. (omega arith, omega arith, search short-step))
+    (λ c. search needs)
+    (λ c. search short-end))

@@ -5,11 +5,9 @@ use Rattle.text.proofs.ShortLaws.{known-is}
 use Rattle.text.proofs.cells.short_known.Statement.{statement}
 use Rattle.text.proofs.cells.short_known.Tie as tie
 
-is-digit-requires : tie.Need-is-digit-requires
-is-digit-requires c κs = search needs
-
-returns : tie.Need-returns
-returns c = search known-is
-
 pub short-known-spec : {M : Type 1} → statement M
-short-known-spec = tie.close (tie.spec is-digit-requires returns)
+short-known-spec =
+    tie.close
+    (tie.spec
+    (λ c κs. search needs)
+    (λ c. search known-is))

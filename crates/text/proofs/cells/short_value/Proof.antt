@@ -4,14 +4,10 @@ use Rattle.text.proofs.ShortLaws.{value-dash, value-digit, value-sub}
 use Rattle.text.proofs.cells.short_value.Statement.{statement}
 use Rattle.text.proofs.cells.short_value.Tie as tie
 
-sub-result : tie.Need-sub-result
-sub-result c = search value-sub
-
-returns : tie.Need-returns
-returns c = search value-dash
-
-returns-2 : tie.Need-returns-2
-returns-2 c = search value-digit
-
 pub short-value-spec : {M : Type 1} → statement M
-short-value-spec = tie.close (tie.spec sub-result returns returns-2)
+short-value-spec =
+    tie.close
+    (tie.spec
+    (λ c. search value-sub)
+    (λ c. search value-dash)
+    (λ c. search value-digit))

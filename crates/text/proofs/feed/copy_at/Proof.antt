@@ -12,45 +12,18 @@ Inv-loop pending₀ at part n i₀ pending i = Copying pending₀ pending part a
 abbrev μ-loop : tie.MeasureT-loop
 μ-loop pending₀ at part n i₀ pending i = length part - i
 
-loop-holds : tie.Need-loop-holds Inv-loop μ-loop
-loop-holds c = copying-none _ _ _
-
-shared-slice-read-pending : tie.Need-shared-slice-read-pending Inv-loop μ-loop
-shared-slice-read-pending c = search needs
-
-add-pending : tie.Need-add-pending Inv-loop μ-loop
-add-pending c = search needs
-
-slice-write-pending : tie.Need-slice-write-pending Inv-loop μ-loop
-slice-write-pending c = search needs
-
-add-i : tie.Need-add-i Inv-loop μ-loop
-add-i c = search needs
-
-loop-less : tie.Need-loop-less Inv-loop μ-loop
-loop-less c = search needs
-
-loop-again : tie.Need-loop-again Inv-loop μ-loop
-loop-again c = search copying-step
-
-same-length : tie.Need-same-length Inv-loop μ-loop
-same-length c = search needs
-
-returns : tie.Need-returns Inv-loop μ-loop
-returns c = search copying-end
-
 pub copy-at-spec : {M : Type 1} → statement M
 copy-at-spec =
     tie.close
     (tie.spec
     Inv-loop
     μ-loop
-    loop-holds
-    shared-slice-read-pending
-    add-pending
-    slice-write-pending
-    add-i
-    loop-less
-    loop-again
-    same-length
-    returns)
+    (λ c. copying-none _ _ _)
+    (λ c. search needs)
+    (λ c. search needs)
+    (λ c. search needs)
+    (λ c. search needs)
+    (λ c. search needs)
+    (λ c. search copying-step)
+    (λ c. search needs)
+    (λ c. search copying-end))

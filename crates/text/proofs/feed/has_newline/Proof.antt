@@ -15,33 +15,15 @@ Inv-loop bytes n found₀ i₀ found i = (i ≤ length bytes) × (found ≡ hasB
 abbrev μ-loop : tie.MeasureT-loop
 μ-loop bytes n found₀ i₀ found i = length bytes - i
 
-loop-holds : tie.Need-loop-holds Inv-loop μ-loop
-loop-holds c = (omega arith, search found-none)
-
-shared-slice-read-found : tie.Need-shared-slice-read-found Inv-loop μ-loop
-shared-slice-read-found c = omega arith
-
-add-i : tie.Need-add-i Inv-loop μ-loop
-add-i c = omega arith
-
-loop-less : tie.Need-loop-less Inv-loop μ-loop
-loop-less c = omega arith
-
-loop-again : tie.Need-loop-again Inv-loop μ-loop
-loop-again c = (omega arith, search found-step)
-
-returns : tie.Need-returns Inv-loop μ-loop
-returns c = search found-all
-
 pub has-newline-spec : {M : Type 1} → statement M
 has-newline-spec =
     tie.close
     (tie.spec
     Inv-loop
     μ-loop
-    loop-holds
-    shared-slice-read-found
-    add-i
-    loop-less
-    loop-again
-    returns)
+    (λ c. (omega arith, search found-none))
+    (λ c. omega arith)
+    (λ c. omega arith)
+    (λ c. omega arith)
+    (λ c. (omega arith, search found-step))
+    (λ c. search found-all))

@@ -15,37 +15,16 @@ Inv-loop line from s i₀ i = (i ≤ length line) × (endAt s line from ≡ endA
 abbrev μ-loop : tie.MeasureT-loop
 μ-loop line from s i₀ i = length line - i
 
-loop-holds : tie.Need-loop-holds Inv-loop μ-loop
-loop-holds c = (search needs, refl)
-
-shared-slice-read-if1 : tie.Need-shared-slice-read-if1 Inv-loop μ-loop
-shared-slice-read-if1 c = omega arith
-
-returns : tie.Need-returns Inv-loop μ-loop
-returns c = search ends-here
-
-add-i : tie.Need-add-i Inv-loop μ-loop
-add-i c = omega arith
-
-loop-less : tie.Need-loop-less Inv-loop μ-loop
-loop-less c = omega arith
-
-loop-again : tie.Need-loop-again Inv-loop μ-loop
-loop-again c = (omega arith, search ends-step)
-
-returns-2 : tie.Need-returns-2 Inv-loop μ-loop
-returns-2 c = search ends-end
-
 pub end-from-spec : {M : Type 1} → statement M
 end-from-spec =
     tie.close
     (tie.spec
     Inv-loop
     μ-loop
-    loop-holds
-    shared-slice-read-if1
-    returns
-    add-i
-    loop-less
-    loop-again
-    returns-2)
+    (λ c. (search needs, refl))
+    (λ c. omega arith)
+    (λ c. search ends-here)
+    (λ c. omega arith)
+    (λ c. omega arith)
+    (λ c. (omega arith, search ends-step))
+    (λ c. search ends-end))

@@ -4,9 +4,9 @@ use Rattle.text.specs.Number.{isDigit}
 use Rattle.text.proofs.fields.is_digit.Statement.{statement}
 use Rattle.text.proofs.fields.is_digit.Tie as tie
 
-returns : tie.Need-returns
-unfolding isDigit
-returns c = refl
-
 pub is-digit-spec : {M : Type 1} → statement M
-is-digit-spec = tie.close (tie.spec returns)
+unfolding isDigit
+is-digit-spec =
+    tie.close
+    (tie.spec
+    (λ c. refl))

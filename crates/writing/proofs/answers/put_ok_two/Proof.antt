@@ -1,21 +1,15 @@
 -- `answers::put_ok_two` meets its contract. Assumes nothing.
-use native.Mathlib.Omega.{arith}
+use mathlib.Core.Path.{refl}
 use borrow.Author.Needs.{needs}
-use Rattle.writing.proofs.WroteLaws.{ok-two}
+use Rattle.writing.proofs.WroteLaws.{ok-more}
 use Rattle.writing.proofs.answers.put_ok_two.Statement.{statement}
 use Rattle.writing.proofs.answers.put_ok_two.Tie as tie
 
-put-ok-one-requires : tie.Need-put-ok-one-requires
-put-ok-one-requires c κs = search needs
-
-put-field-requires : tie.Need-put-field-requires
-put-field-requires c κs = omega (arith, c .before .before .before .put-ok-one .ensures .short, c .before .before .before .put-ok-one .ensures .wrote .room)
-
-same-length : tie.Need-same-length
-same-length c = search needs
-
-returns : tie.Need-returns
-returns c = search ok-two
-
 pub put-ok-two-spec : {M : Type 1} → statement M
-put-ok-two-spec = tie.close (tie.spec put-ok-one-requires put-field-requires same-length returns)
+put-ok-two-spec =
+    tie.close
+    (tie.spec
+    (λ c κs. search needs)
+    (λ c κs. search needs)
+    (λ c. search needs)
+    (λ c. search (ok-more, refl, needs)))
