@@ -21,6 +21,22 @@ holdsAt col v r = eqb (getD col r 255) v
 unfoldable pub columnBit : List ℕ → ℕ → Bool
 columnBit col q = ltb (q / 2048) 32 && holdsAt col (q / 2048) (q % 2048)
 
+-- bit q is of word i of its vector, and in the column
+unfoldable pub inWord : List ℕ → ℕ → ℕ → Bool
+inWord col i q = eqb (q % 2048 / 64) i && columnBit col q
+
+-- of the rows of word i of the column the first k that hold v, in word v, for each v below 32
+pub record Gathered (col : List ℕ) (i k : ℕ) (own : List ℕ) : Type 0 where
+  pub at : (v : ℕ) → v < 32 → getD own v 0 ≡ packBits (λ j. holdsAt col v (i * 64 + j)) k
+
+-- what a loop that gathers the rows `from` to `to` of word i needs
+pub record Gatherable (own col : List ℕ) (i from to : ℕ) : Type 0 where
+  pub room : 256 ≤ length own
+  pub ordered : from ≤ to
+  pub in-word : to ≤ 64
+  pub in-column : i * 64 + to ≤ length col
+  pub sofar : Gathered col i from own
+
 -- the value that a byte stands for
 unfoldable pub valueOf : ℕ → Option ℕ
 valueOf b = cond (eqb b 255) none (some b)

@@ -17,6 +17,5 @@ pub mod Scan
 pub mod VecOps
 pub mod Vectors
 pub mod Column
-pub mod Columns
 pub mod Reads
 pub mod Examples
