@@ -1,7 +1,7 @@
 -- A test that holds of each number below n.
 -- Assumes nothing.
-use mathlib.Core.Path.{_≡_, refl, sym, ap, ap₂, _∙_}
-use mathlib.Core.Bool.{Bool, true, false, _&&_, true≢false, and-eq-true-iff}
+use mathlib.Core.Path.{_≡_, refl, ap, ap₂, _∙_}
+use mathlib.Core.Bool.{Bool, true, false, _&&_, and-eq-true-iff}
 use mathlib.Core.Logic.{_⊎_, inl, inr}
 use Prim.Native.Nat.{ℕ, zero, suc, _+_, _<_}
 use native.Mathlib.Omega.{arith}
@@ -35,14 +35,6 @@ module _ (p : ℕ → Bool) where
   pub all-more : (n : ℕ) → allBelow p (n + 1) ≡ allBelow p n && p n
   unfolding allBelow
   all-more n = ap (allBelow p) (add-one n)
-
-  -- one that fails
-  pub all-fails : (n i : ℕ) → i < n → p i ≡ false → allBelow p n ≡ false
-  all-fails n i l e = go (allBelow p n) refl
-    where
-      go : (t : Bool) → allBelow p n ≡ t → t ≡ false
-      go true a = absurd (true≢false (sym (all-at n a i l) ∙ e))
-      go false a = refl
 
 pub all-ext : (p q : ℕ → Bool) (n : ℕ) → ((i : ℕ) → i < n → p i ≡ q i) → allBelow p n ≡ allBelow q n
 unfolding allBelow

@@ -3,12 +3,12 @@
 use mathlib.Core.Path.{_≡_, refl, sym, ap, ap₂, _∙_, subst}
 use mathlib.Core.Bool.{Bool, true, false, not, _&&_, _||_, or-comm, true≢false}
 use Prim.Native.Nat.{ℕ, zero, suc, _+_, _*_, _/_, _%_, _^_, _≤_, _<_}
-use native.Mathlib.Nat.{div-one, div-div-eq-div-mul, pow-succ', mod-lt, one-mul, lt-of-lt-of-le, div-eq-of-lt, zero-div, zero-lt-suc, pow-suc, mul-mod-left, mul-div-cancel, le-add-right, div-lt-iff-lt-mul, lt-of-le-of-lt}
+use native.Mathlib.Nat.{div-one, div-div-eq-div-mul, pow-succ', mod-lt, one-mul, lt-of-lt-of-le, div-eq-of-lt, zero-div, zero-lt-suc, pow-suc, mul-mod-left, mul-div-cancel, div-lt-iff-lt-mul}
 use native.Mathlib.Omega.{arith}
 use lib.Dec.{lit<, eqb, eqb·zero-suc, eqb·suc-zero, eqb·suc-suc}
 use lib.Arith.{lt-one}
-use lib.Pow.{pow-pos, pow-mono, pow-lt, shl-exact, shr-shr, shr-le}
-use lib.Bits.{bitOr, bitXor, or-shr, xor-shr, or-mod, xor-mod, xor-lt, or-lt, xor-zero-l}
+use lib.Pow.{pow-pos, pow-mono, pow-lt, shl-exact, shr-shr}
+use lib.Bits.{bitOr, bitXor, or-shr, xor-shr, or-mod, xor-mod, xor-lt, or-lt}
 
 -- one of two, and not both
 abbrev pub xorb : Bool → Bool → Bool
@@ -133,11 +133,6 @@ bit-none m a h z = bit-ext m a 0 h (pow-pos m) (λ k l. z k l ∙ sym (bit-of-ze
 pub shr-none : (a n : ℕ) → a / 2 ^ n ≡ 0 → a < 2 ^ n
 shr-none a n e = subst (λ (x : ℕ). a < x) (one-mul (2 ^ n)) (div-lt-iff-lt-mul (pow-pos n) .0 (omega arith))
 
--- a number with no bit at or above n is below 2 ^ n
-pub bit-lt : (n m a : ℕ) → a < 2 ^ m → ((k : ℕ) → n ≤ k → bit a k ≡ false) → a < 2 ^ n
-bit-lt n m a h z =
-    shr-none a n (bit-none m (a / 2 ^ n) (lt-of-le-of-lt (shr-le a n) h) (λ k l. bit-shr a n k ∙ z (n + k) (le-add-right n k)))
-
 -- ---- the operations on one bit
 
 -- bit k turned over
@@ -181,8 +176,3 @@ clear-lt c n k h l = xor-lt c (bitOr n (2 ^ k)) (2 ^ k) (or-lt c n (2 ^ k) h (po
 -- what `1 << k` is
 pub one-shl : (w k : ℕ) → k < w → (1 * 2 ^ k) % 2 ^ w ≡ 2 ^ k
 one-shl w k l = shl-exact 1 k w (lit< tt) (omega arith) ∙ one-mul (2 ^ k)
-
--- one bit alone is what turning it over makes of none
-pub flip-zero : (k : ℕ) → flipBit 0 k ≡ 2 ^ k
-unfolding flipBit
-flip-zero k = xor-zero-l (2 ^ k)

@@ -13,9 +13,7 @@ pub mod Words
 pub mod Vec
 pub mod Tail
 pub mod Rows
-pub mod Scan
 pub mod VecOps
 pub mod Vectors
 pub mod Column
-pub mod Reads
 pub mod Examples

@@ -8,7 +8,7 @@ use native.Mathlib.Nat.{eq-or-lt-of-le, le-of-suc-le-suc, not-suc-le-zero, lt-su
 use native.Mathlib.Numerals.{add-one}
 use native.Mathlib.Omega.{arith}
 use lib.ListN.{length, getD, set, drop, length-append, length-drop, length-set, List·getD-append}
-use lib.Seq.{set-at, drop-cons, append-snoc, getD-append-seam, drop-length, drop-append-add, drop-drop, ext-getD}
+use lib.Seq.{set-at, drop-cons, append-snoc, getD-append-seam, drop-length, ext-getD}
 
 -- l stored in d from the front
 abbrev pub over : List ℕ → List ℕ → List ℕ
@@ -27,14 +27,6 @@ over-all l d e = ap (λ (n : ℕ). l ++ drop n d) e ∙ ap (λ (t : List ℕ). l
 
 pub length-over : (l d : List ℕ) → length l ≤ length d → length (over l d) ≡ length d
 length-over l d h = omega (arith, length-append l (drop (length l) d), length-drop (length l) d)
-
--- a longer list stored over a shorter one
-pub over-over : (l m d : List ℕ) → length l ≤ length m → length l ≤ length d → over m (over l d) ≡ over m d
-over-over l m d h k =
-    let e : length l + (length m - length l) ≡ length m = omega arith in
-    ap (λ (t : List ℕ). m ++ t)
-    (ap (λ (n : ℕ). drop n (over l d)) (sym e) ∙ drop-append-add l (drop (length l) d) (length m - length l)
-    ∙ drop-drop (length m - length l) (length l) d ∙ ap (λ (n : ℕ). drop n d) e)
 
 module _ {A : Type 0} where
   -- g 0, .., g (n - 1)

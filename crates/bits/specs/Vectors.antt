@@ -3,7 +3,7 @@
 use mathlib.Core.Path.{_≡_, sym, ap, ap₂, _∙_, subst}
 use mathlib.Core.Bool.{Bool, true, _&&_}
 use mathlib.Core.List.{List}
-use mathlib.Core.Logic.{_⊎_, inl, inr, ⊎-elim}
+use mathlib.Core.Logic.{_⊎_, ⊎-elim}
 use Prim.Native.Nat.{ℕ, _+_, _-_, _*_, _/_, _%_, _^_, _≤_, _<_}
 use native.Mathlib.Omega.{arith}
 use lib.Bits.{bitOr}
@@ -13,9 +13,9 @@ use Rattle.bits.specs.Cases.{lt-cases}
 use Rattle.bits.specs.All.{allBelow, all-of, all-ext, all-and}
 use Rattle.bits.specs.OrWords.{orBelow, or-clear, orFrom, from-more, from-all}
 use Rattle.bits.specs.Bit.{bit}
-use Rattle.bits.specs.Part.{part, putPart, length-part, getD-part, getD-before, getD-within, getD-after, part-same, part-other}
+use Rattle.bits.specs.Part.{part, length-part, getD-part}
 use Rattle.bits.specs.Words.{bitAt, Words}
-use Rattle.bits.specs.Vec.{vec, length-vec, bitAt-vec, words-vec, vec-unique, vec-bits}
+use Rattle.bits.specs.Vec.{vec, length-vec, bitAt-vec, words-vec, vec-unique}
 use Rattle.bits.specs.Tail.{tailClear, zerosFrom, tail-words, tail-past}
 
 -- ---- a part of the words, as rows
@@ -40,30 +40,6 @@ part-vec f m a n h =
     vec-unique (λ r. f (a * 64 + r)) n (part a n (vec f m)) (length-part a n (vec f m) fits) (words-part (vec f m) a n fits (words-vec f m))
     (λ r l. bitAt-part (vec f m) a n fits r l ∙ bitAt-vec f m (a * 64 + r) (omega arith))
 
--- the words with another part in its place
-module _ (a : ℕ) (ys ws : List ℕ) (fits : a + length ys ≤ length ws) where
-  pub bitAt-within : (r : ℕ) → r < length ys * 64 → bitAt (putPart a ys ws) (a * 64 + r) ≡ bitAt ys r
-  unfolding bitAt
-  bitAt-within r h =
-      let i : (a * 64 + r) / 64 ≡ a + r / 64 = omega arith in
-      let k : (a * 64 + r) % 64 ≡ r % 64 = omega arith in
-      ap₂ (λ (x y : ℕ). bit (getD (putPart a ys ws) x 0) y) i k ∙ ap (λ (w : ℕ). bit w (r % 64)) (getD-within a ys ws fits (r / 64) 0 (omega arith))
-
-  pub bitAt-outside : (r : ℕ) → (r < a * 64) ⊎ ((a + length ys) * 64 ≤ r) → bitAt (putPart a ys ws) r ≡ bitAt ws r
-  unfolding bitAt
-  bitAt-outside r s =
-      ap (λ (w : ℕ). bit w (r % 64))
-      (⊎-elim (λ (l : r < a * 64). getD-before a ys ws fits (r / 64) 0 (omega arith)) (λ (l : (a + length ys) * 64 ≤ r). getD-after a ys ws fits (r / 64) 0 (omega arith)) s)
-
-  pub words-putPart : Words ys → Words ws → Words (putPart a ys ws)
-  words-putPart hy hw i =
-      ⊎-elim (λ (l : i < a). subst (λ (x : ℕ). x < 2 ^ 64) (sym (getD-before a ys ws fits i 0 l)) (hw i))
-      (λ (l : a ≤ i). ⊎-elim
-      (λ (m : i < a + length ys). let e : a + (i - a) ≡ i = omega arith in
-      subst (λ (x : ℕ). x < 2 ^ 64) (sym (ap (λ (k : ℕ). getD (putPart a ys ws) k 0) (sym e) ∙ getD-within a ys ws fits (i - a) 0 (omega arith))) (hy (i - a)))
-      (λ (m : a + length ys ≤ i). subst (λ (x : ℕ). x < 2 ^ 64) (sym (getD-after a ys ws fits i 0 m)) (hw i)) (lt-cases i (a + length ys)))
-      (lt-cases i a)
-
 -- ---- vector i
 
 -- vector i of the words
@@ -83,31 +59,9 @@ module _ (ws : List ℕ) (i : ℕ) (fits : 32 * i + 32 ≤ length ws) where
   unfolding vectorAt
   words-vectorAt = words-part ws (32 * i) 32 fits
 
-  pub bitAt-vectorAt : (r : ℕ) → r < 2048 → bitAt (vectorAt ws i) r ≡ bitAt ws (2048 * i + r)
-  unfolding vectorAt
-  bitAt-vectorAt r h = let e : 32 * i * 64 + r ≡ 2048 * i + r = omega arith in bitAt-part ws (32 * i) 32 fits r h ∙ ap (bitAt ws) e
-
-  -- vector i is what was put there, and another vector stays
-  pub vectorAt-same : (ys : List ℕ) → length ys ≡ 32 → vectorAt (putPart (32 * i) ys ws) i ≡ ys
-  unfolding vectorAt
-  vectorAt-same ys e =
-      subst (λ (n : ℕ). part (32 * i) n (putPart (32 * i) ys ws) ≡ ys) e (part-same (32 * i) ys ws (omega arith))
-
-  pub vectorAt-other : (j : ℕ) (ys : List ℕ) → 32 * j + 32 ≤ length ws → length ys ≡ 32 → (i ≡ j → ⊥) → vectorAt (putPart (32 * j) ys ws) i ≡ vectorAt ws i
-  unfolding vectorAt
-  vectorAt-other j ys h e n = part-other (32 * j) ys ws (omega arith) (32 * i) 32 (side (lt-cases i j)) fits
-    where
-      side : (i < j) ⊎ (j ≤ i) → (32 * i + 32 ≤ 32 * j) ⊎ (32 * j + length ys ≤ 32 * i)
-      side (inl l) = inl (omega arith)
-      side (inr l) = inr (omega arith)
-
 pub vectorAt-vec : (f : ℕ → Bool) (n i : ℕ) → 32 * i + 32 ≤ n → vectorAt (vec f n) i ≡ vec (λ r. f (2048 * i + r)) 32
 unfolding vectorAt
 vectorAt-vec f n i h = part-vec f n (32 * i) 32 h ∙ ap (λ (k : ℕ). vec (λ r. f (k + r)) 32) (omega arith)
-
--- vector i by its rows
-pub vectorAt-self : (ws : List ℕ) (i : ℕ) → Words ws → 32 * i + 32 ≤ length ws → vectorAt ws i ≡ vec (λ r. bitAt ws (2048 * i + r)) 32
-vectorAt-self ws i w h = ap (λ (l : List ℕ). vectorAt l i) (sym (vec-bits ws w)) ∙ vectorAt-vec (bitAt ws) (length ws) i h
 
 -- ---- no row from a count on in any vector: the word where the count falls of all of them at a time, then the rest of each
 

@@ -11,7 +11,7 @@ use lib.Dec.{eqb, lit<}
 use lib.ListN.{length, getD, set, length-set, List·getD-eq-default}
 use lib.Seq.{ext-getD, getD-set-same, getD-set-other, set-out}
 use lib.Bits.{bitXor, xor-lt}
-use Rattle.bits.specs.Bit.{xorb, bit, bit-ext, bit-of-zero, bit-xor, flipBit, setBit, clearBit, bit-flip, bit-set, bit-clear, flip-lt, set-lt, clear-lt}
+use Rattle.bits.specs.Bit.{xorb, bit, bit-ext, bit-of-zero, bit-xor, setBit, clearBit, bit-set, bit-clear, set-lt, clear-lt}
 use Rattle.bits.specs.Cases.{eq-cases, lt-cases}
 use Rattle.bits.specs.Tab.{tab, length-tab, getD-tab}
 
@@ -44,31 +44,6 @@ bitAt-ext a b e p q h =
 
 -- ---- one bit of a list of words changed
 
--- a change g of bit k of a word, which makes bit j what h says
-module _ (g : ℕ → ℕ → ℕ) (h : Bool → Bool → Bool) (hg : (w k j : ℕ) → bit (g w k) j ≡ h (eqb k j) (bit w j)) (h0 : (b : Bool) → h false b ≡ b) where
-  abbrev changed : List ℕ → ℕ → List ℕ
-  changed ws r = set ws (r / 64) (g (getD ws (r / 64) 0) (r % 64))
-
-  bitAt-changed : (ws : List ℕ) (r : ℕ) → r < length ws * 64 → (q : ℕ) → bitAt (changed ws r) q ≡ h (eqb r q) (bitAt ws q)
-  unfolding bitAt
-  bitAt-changed ws r l q =
-      ⊎-elim
-      (λ (e : q / 64 ≡ r / 64).
-      ap (λ (i : ℕ). bit (getD (changed ws r) i 0) (q % 64)) e
-      ∙ ap (λ (w : ℕ). bit w (q % 64)) (getD-set-same ws (r / 64) (g (getD ws (r / 64) 0) (r % 64)) 0 (omega arith))
-      ∙ hg (getD ws (r / 64) 0) (r % 64) (q % 64)
-      ∙ ap₂ (λ (t : Bool) (i : ℕ). h t (bit (getD ws i 0) (q % 64))) (low-same e) (sym e))
-      (λ (n : q / 64 ≡ r / 64 → ⊥).
-      ap (λ (w : ℕ). bit w (q % 64)) (getD-set-other ws (r / 64) (q / 64) (g (getD ws (r / 64) 0) (r % 64)) 0 n)
-      ∙ sym (h0 (bit (getD ws (q / 64) 0) (q % 64)))
-      ∙ ap (λ (t : Bool). h t (bit (getD ws (q / 64) 0) (q % 64))) (sym (ne-eqb r q (λ e. n (ap (λ (x : ℕ). x / 64) (sym e))))))
-      (eq-cases (q / 64) (r / 64))
-    where
-      low-same : q / 64 ≡ r / 64 → eqb (r % 64) (q % 64) ≡ eqb r q
-      low-same e =
-          ⊎-elim (λ (s : r ≡ q). eq-eqb (r % 64) (q % 64) (ap (λ (x : ℕ). x % 64) s) ∙ sym (eq-eqb r q s))
-          (λ (n : r ≡ q → ⊥). ne-eqb (r % 64) (q % 64) (λ s. n (omega arith)) ∙ sym (ne-eqb r q n)) (eq-cases r q)
-
 -- w with bit k made `on`
 abbrev pub putBit : ℕ → ℕ → Bool → ℕ
 putBit w k on = cond on (setBit w k) (clearBit w k)
@@ -85,29 +60,34 @@ bit-put false w k j = bit-clear w k j ∙ go (eqb k j) (bit w j)
     go true y = refl
     go false y = refl
 
--- row r's bit turned over
-unfoldable pub flipAt : List ℕ → ℕ → List ℕ
-flipAt ws r = set ws (r / 64) (flipBit (getD ws (r / 64) 0) (r % 64))
-
 -- row r's bit made `on`
 unfoldable pub putAt : List ℕ → ℕ → Bool → List ℕ
 putAt ws r on = set ws (r / 64) (putBit (getD ws (r / 64) 0) (r % 64) on)
-
-pub length-flip : (ws : List ℕ) (r : ℕ) → length (flipAt ws r) ≡ length ws
-unfolding flipAt
-length-flip ws r = length-set ws (r / 64) (flipBit (getD ws (r / 64) 0) (r % 64))
 
 pub length-put : (ws : List ℕ) (r : ℕ) (on : Bool) → length (putAt ws r on) ≡ length ws
 unfolding putAt
 length-put ws r on = length-set ws (r / 64) (putBit (getD ws (r / 64) 0) (r % 64) on)
 
-pub bitAt-flip : (ws : List ℕ) (r : ℕ) → r < length ws * 64 → (q : ℕ) → bitAt (flipAt ws r) q ≡ xorb (eqb r q) (bitAt ws q)
-unfolding flipAt
-bitAt-flip = bitAt-changed flipBit xorb bit-flip (λ b. refl)
-
 pub bitAt-put : (on : Bool) (ws : List ℕ) (r : ℕ) → r < length ws * 64 → (q : ℕ) → bitAt (putAt ws r on) q ≡ cond (eqb r q) on (bitAt ws q)
-unfolding putAt
-bitAt-put on = bitAt-changed (λ w k. putBit w k on) (λ e b. cond e on b) (bit-put on) (λ b. refl)
+unfolding putAt bitAt
+bitAt-put on ws r l q =
+    ⊎-elim
+    (λ (e : q / 64 ≡ r / 64).
+    ap (λ (i : ℕ). bit (getD (set ws (r / 64) w) i 0) (q % 64)) e
+    ∙ ap (λ (x : ℕ). bit x (q % 64)) (getD-set-same ws (r / 64) w 0 (omega arith)) ∙ bit-put on (getD ws (r / 64) 0) (r % 64) (q % 64)
+    ∙ ap₂ (λ (t : Bool) (i : ℕ). cond t on (bit (getD ws i 0) (q % 64))) (low-same e) (sym e))
+    (λ (n : q / 64 ≡ r / 64 → ⊥).
+    ap (λ (x : ℕ). bit x (q % 64)) (getD-set-other ws (r / 64) (q / 64) w 0 n)
+    ∙ ap (λ (t : Bool). cond t on (bit (getD ws (q / 64) 0) (q % 64))) (sym (ne-eqb r q (λ e. n (ap (λ (x : ℕ). x / 64) (sym e))))))
+    (eq-cases (q / 64) (r / 64))
+  where
+    w : ℕ
+    w = putBit (getD ws (r / 64) 0) (r % 64) on
+
+    low-same : q / 64 ≡ r / 64 → eqb (r % 64) (q % 64) ≡ eqb r q
+    low-same e =
+        ⊎-elim (λ (s : r ≡ q). eq-eqb (r % 64) (q % 64) (ap (λ (x : ℕ). x % 64) s) ∙ sym (eq-eqb r q s))
+        (λ (n : r ≡ q → ⊥). ne-eqb (r % 64) (q % 64) (λ s. n (omega arith)) ∙ sym (ne-eqb r q n)) (eq-cases r q)
 
 -- ---- two lists of words, bit by bit
 
@@ -138,10 +118,6 @@ words-set ws i w h l j =
     ⊎-elim (λ (m : i < length ws). subst (λ (x : ℕ). x < 2 ^ 64) (sym (ap (λ (k : ℕ). getD (set ws i w) k 0) e ∙ getD-set-same ws i w 0 m)) l)
     (λ (m : length ws ≤ i). subst (λ (t : List ℕ). getD t j 0 < 2 ^ 64) (sym (set-out ws i w m)) (h j)) (lt-cases i (length ws)))
     (λ (n : j ≡ i → ⊥). subst (λ (x : ℕ). x < 2 ^ 64) (sym (getD-set-other ws i j w 0 n)) (h j)) (eq-cases j i)
-
-pub words-flip : (ws : List ℕ) (r : ℕ) → Words ws → Words (flipAt ws r)
-unfolding flipAt
-words-flip ws r h = words-set ws (r / 64) (flipBit (getD ws (r / 64) 0) (r % 64)) h (flip-lt 64 (getD ws (r / 64) 0) (r % 64) (h (r / 64)) (omega arith))
 
 put-lt : (on : Bool) (w k : ℕ) → w < 2 ^ 64 → k < 64 → putBit w k on < 2 ^ 64
 put-lt true w k h l = set-lt 64 w k h l
