@@ -9,15 +9,38 @@ use native.Mathlib.Omega.{arith}
 use borrow.Author.Tests.{eq-eqb, ne-eqb, lt-ltb, le-ltb}
 use lib.Bits.{bitOr, or-lt}
 use lib.Dec.{eqb, ltb}
-use lib.ListN.{length, getD, take, drop, set, length-set, length-append, length-drop, List·getD-append}
+use lib.ListN.{length, getD, take, drop, set, length-set, length-append, length-drop, List·getD-append, List·getD-eq-default}
 use lib.Seq.{getD-set-same, getD-set-other, length-take-le}
-use Rattle.bits.specs.Cases.{eq-cases, lt-cases}
-use Rattle.bits.specs.Bit.{bit, bit-or, setBit, one-shl}
-use Rattle.bits.specs.Tab.{getD-tab}
-use Rattle.bits.specs.Words.{bitAt, Words, words-set}
-use Rattle.bits.specs.Vec.{packBits, pack-lt, bit-pack, wordOf, word-none}
-use Rattle.bits.specs.Vec.{vec, length-vec, bitAt-vec, words-vec, vec-unique, vec-ext, vec-bits}
-use Rattle.bits.specs.Column.{holdsAt, holds-past, columnBit, inWord, Gathered, Gatherable, column-more, column-all}
+use Rattle.bits.proofs.Cases.{eq-cases, lt-cases}
+use Rattle.bits.specs.Bit.{bit, setBit}
+use Rattle.bits.proofs.BitLaws.{bit-or, one-shl}
+use Rattle.bits.proofs.TabLaws.{getD-tab, getD-any}
+use Rattle.bits.specs.Words.{bitAt, Words}
+use Rattle.bits.proofs.WordLaws.{words-set}
+use Rattle.bits.specs.Vec.{packBits, wordOf, vec}
+use Rattle.bits.proofs.VecLaws.{pack-lt, bit-pack, word-none, pack-more, pack-cut}
+use Rattle.bits.proofs.VecLaws.{length-vec, bitAt-vec, words-vec, vec-unique, vec-ext, vec-bits}
+use Rattle.bits.specs.Column.{holdsAt, columnBit, withRows, inWord, Gathered, Gatherable}
+
+-- a row past the end holds no value
+holds-past : (col : List ℕ) (v r : ℕ) → v < 255 → length col ≤ r → holdsAt col v r ≡ false
+holds-past col v r h l = ap (λ (b : ℕ). eqb b v) (List·getD-eq-default col 255 l) ∙ ne-eqb 255 v (λ e. omega arith)
+
+-- ---- a loop that gathers the rows of word i: w has the first k of them
+
+module _ (col : List ℕ) (v i : ℕ) where
+  abbrev rowsFrom : ℕ → ℕ
+  rowsFrom k = packBits (λ j. holdsAt col v (i * 64 + j)) k
+
+  column-more : (k w u : ℕ) → i * 64 + k < length col → w ≡ rowsFrom k → u ≡ cond (eqb (getD col (i * 64 + k) 0) v) (setBit w k) w
+      → u ≡ rowsFrom (k + 1)
+  column-more k w u h e q =
+      q ∙ ap₂ (λ (b x : ℕ). cond (eqb b v) (setBit x k) x) (getD-any col (i * 64 + k) 0 255 h) e
+      ∙ sym (pack-more (λ j. holdsAt col v (i * 64 + j)) k)
+
+  column-all : (n w : ℕ) → v < 255 → n ≡ min 64 (length col - i * 64) → w ≡ rowsFrom n → w ≡ wordOf (holdsAt col v) i
+  column-all n w h e q =
+      q ∙ sym (pack-cut (λ j. holdsAt col v (i * 64 + j)) n 64 (omega arith) (λ k l o. holds-past col v (i * 64 + k) h (omega arith)))
 
 -- ---- the rows of word i, gathered by value
 
@@ -88,7 +111,7 @@ module _ (col : List ℕ) (i : ℕ) where
 
 pub record Grown (g : ℕ → ℕ) (r : ℕ → Bool) (w₀ w : List ℕ) (n : ℕ) : Type 0 where
   pub same : length w ≡ length w₀
-  pub sofar : w ≡ vec (λ q. bitAt w₀ q || ltb (g q) n && r q) (length w₀)
+  pub sofar : w ≡ withRows (λ q. ltb (g q) n && r q) w₀
 
 module _ (g : ℕ → ℕ) (r : ℕ → Bool) (w₀ : List ℕ) where
   pub grown-none : Words w₀ → Grown g r w₀ w₀ 0
@@ -100,7 +123,7 @@ module _ (g : ℕ → ℕ) (r : ℕ → Bool) (w₀ : List ℕ) where
         (λ q l. sym (ap (λ (t : Bool). bitAt w₀ q || t && r q) (le-ltb (g q) 0 zero-le) ∙ or-false (bitAt w₀ q)));
   }
 
-  pub grown-more : {w w′ : List ℕ} {n : ℕ} → Grown g r w₀ w n → w′ ≡ vec (λ q. bitAt w q || eqb (g q) n && r q) (length w)
+  pub grown-more : {w w′ : List ℕ} {n : ℕ} → Grown g r w₀ w n → w′ ≡ withRows (λ q. eqb (g q) n && r q) w
       → Grown g r w₀ w′ (n + 1)
   grown-more {w} {w′} {n} p e =
       let then : ℕ → Bool = λ q. bitAt w₀ q || ltb (g q) (n + 1) && r q in
@@ -122,7 +145,7 @@ module _ (g : ℕ → ℕ) (r : ℕ → Bool) (w₀ : List ℕ) where
       one q l (inr a) (inr b) =
           rw (before q l, le-ltb (g q) n a, ne-eqb (g q) n b, le-ltb (g q) (n + 1) (omega arith)) (or-false (bitAt w₀ q || false))
 
-  pub grown-all : {w : List ℕ} {n : ℕ} → Grown g r w₀ w n → ((q : ℕ) → n ≤ g q → r q ≡ false) → w ≡ vec (λ q. bitAt w₀ q || r q) (length w₀)
+  pub grown-all : {w : List ℕ} {n : ℕ} → Grown g r w₀ w n → ((q : ℕ) → n ≤ g q → r q ≡ false) → w ≡ withRows r w₀
   grown-all {w} {n} p h =
       p .sofar ∙ vec-ext (λ q. bitAt w₀ q || ltb (g q) n && r q) (λ q. bitAt w₀ q || r q) (length w₀)
       (λ q l. ap (λ (t : Bool). bitAt w₀ q || t) (go q (lt-cases (g q) n)))
@@ -138,7 +161,7 @@ module _ (g : ℕ → ℕ) (r : ℕ → Bool) (w₀ : List ℕ) where
 
 -- a word with the bits of another
 or-word : (w : List ℕ) (p x : ℕ) → Words w → p < length w → x < 2 ^ 64
-    → set w p (bitOr (getD w p 0) x) ≡ vec (λ q. bitAt w q || eqb (q / 64) p && bit x (q % 64)) (length w)
+    → set w p (bitOr (getD w p 0) x) ≡ withRows (λ q. eqb (q / 64) p && bit x (q % 64)) w
 unfolding bitAt
 or-word w p x h l m =
     vec-unique (λ q. bitAt w q || eqb (q / 64) p && bit x (q % 64)) (length w) (set w p u) (length-set w p u)
@@ -182,7 +205,7 @@ module _ (col : List ℕ) (i : ℕ) (low : i < 32) where
 
   -- from value 32 on there is none
   pub vectors-end : (w₀ w : List ℕ) (v : ℕ) → Grown (λ q. q / 2048) (inWord col i) w₀ w v → 32 ≤ v
-      → w ≡ vec (λ q. bitAt w₀ q || inWord col i q) (length w₀)
+      → w ≡ withRows (inWord col i) w₀
   unfolding inWord columnBit
   vectors-end w₀ w v p h =
       grown-all (λ q. q / 2048) (inWord col i) w₀ p
@@ -193,13 +216,13 @@ module _ (col : List ℕ) (i : ℕ) (low : i < 32) where
 
 module _ (col w₀ : List ℕ) where
   pub word-more : (w w′ : List ℕ) (i : ℕ) → Grown (λ q. q % 2048 / 64) (columnBit col) w₀ w i
-      → w′ ≡ vec (λ q. bitAt w q || inWord col i q) (length w) → Grown (λ q. q % 2048 / 64) (columnBit col) w₀ w′ (i + 1)
+      → w′ ≡ withRows (inWord col i) w → Grown (λ q. q % 2048 / 64) (columnBit col) w₀ w′ (i + 1)
   unfolding inWord
   word-more w w′ i p e = grown-more (λ q. q % 2048 / 64) (columnBit col) w₀ p e
 
   -- past the column's end no row holds a value
   pub words-end : (w : List ℕ) (i : ℕ) → Grown (λ q. q % 2048 / 64) (columnBit col) w₀ w i → length col ≤ i * 64
-      → w ≡ vec (λ q. bitAt w₀ q || columnBit col q) (length w₀)
+      → w ≡ withRows (columnBit col) w₀
   unfolding columnBit
   words-end w i p h = grown-all (λ q. q % 2048 / 64) (columnBit col) w₀ p (λ q l. none q l (lt-cases (q / 2048) 32))
     where

@@ -2,12 +2,9 @@
 // Assumes nothing.
 use crate::vectors;
 ghost use mathlib.Core.Path.{_≡_};
-ghost use mathlib.Core.Bool.{_||_};
 ghost use Prim.Native.Nat.{_+_, _-_, _*_, _≤_, _<_, min};
 ghost use lib.ListN.{length};
-ghost use Rattle.bits.specs.Words.{bitAt};
-ghost use Rattle.bits.specs.Vec.{vec};
-ghost use Rattle.bits.specs.Column.{columnBit, inWord, Gathered, Gatherable};
+ghost use Rattle.bits.specs.Column.{columnBit, inWord, withRows, Gathered, Gatherable};
 
 // How many of the 64 rows of word i are below n.
 fn rows_of_word(n: usize, i: usize) -> usize
@@ -58,7 +55,7 @@ fn gather(own: &mut [u64], col: &[u8], i: usize)
 // Each row of word i of a column that holds a value below 32 is set in the value's vector.
 fn set_word(words: &mut [u64], own: &mut [u64], col: &[u8], i: usize)
     requires { ⌜ (1024 ≤ length (now words)) × (256 ≤ length (now own)) × (i < 32) × (i * 64 ≤ length (now col)) ⌝ }
-    ensures { λ _. ⌜ now (words .exit) ≡ vec (λ q. bitAt (now (words .entry)) q || inWord (now (col .entry)) i q) (length (now (words .entry))) ⌝ }
+    ensures { λ _. ⌜ now (words .exit) ≡ withRows (inWord (now (col .entry)) i) (now (words .entry)) ⌝ }
 {
     gather(own, col, i);
     let mut v: usize = 0;
@@ -72,7 +69,7 @@ fn set_word(words: &mut [u64], own: &mut [u64], col: &[u8], i: usize)
 // Each row of a column that holds a value below 32 is set in the value's vector: vector b is the 32 words from 32 * b on.
 pub fn set_columns(words: &mut [u64], col: &[u8])
     requires { ⌜ (1024 ≤ length (now words)) × (length (now col) ≤ 2048) ⌝ }
-    ensures { λ _. ⌜ now (words .exit) ≡ vec (λ q. bitAt (now (words .entry)) q || columnBit (now (col .entry)) q) (length (now (words .entry))) ⌝ }
+    ensures { λ _. ⌜ now (words .exit) ≡ withRows (columnBit (now (col .entry))) (now (words .entry)) ⌝ }
 {
     let mut own = [0u64; 256];
     let mut i: usize = 0;

@@ -23,26 +23,8 @@ loop-holds c =
     let fits = c .before .slice-known .given in
     (grown-none (λ q. q % 2048 / 64) (columnBit (s .col .now)) (s .words .now) (λ i. fits i .fits), search needs, search needs)
 
-mul-loop : tie.Need-mul-loop Inv-loop μ-loop
-mul-loop c = search needs
-
-slice-aggregate-set-word : tie.Need-slice-aggregate-set-word Inv-loop μ-loop
-slice-aggregate-set-word c = search needs
-
-set-word-requires : tie.Need-set-word-requires Inv-loop μ-loop
-set-word-requires c κs = search needs
-
-add-i : tie.Need-add-i Inv-loop μ-loop
-add-i c = search needs
-
-loop-less : tie.Need-loop-less Inv-loop μ-loop
-loop-less c = search needs
-
 loop-again : tie.Need-loop-again Inv-loop μ-loop
 loop-again c = (search word-more, search needs, search needs)
-
-same-length : tie.Need-same-length Inv-loop μ-loop
-same-length c = search needs
 
 returns : tie.Need-returns Inv-loop μ-loop
 returns c =
@@ -57,11 +39,11 @@ set-columns-spec =
     Inv-loop
     μ-loop
     loop-holds
-    mul-loop
-    slice-aggregate-set-word
-    set-word-requires
-    add-i
-    loop-less
+    (λ c. search needs)
+    (λ c. search needs)
+    (λ c κs. search needs)
+    (λ c. search needs)
+    (λ c. search needs)
     loop-again
-    same-length
+    (λ c. search needs)
     returns)

@@ -8,11 +8,15 @@ use Prim.Native.Nat.{ℕ, _*_, _/_, _%_, _^_, _≤_, _<_}
 use native.Mathlib.Omega.{arith}
 use lib.Dec.{eqb, lit<}
 use lib.ListN.{length, getD, replicate, length-replicate, getD-replicate, List·getD-eq-default}
-use Rattle.bits.specs.Bit.{xorb, bit, bit-of-zero}
-use Rattle.bits.specs.Cases.{lt-cases}
-use Rattle.bits.specs.Words.{bitAt, Words, bitAt-put, bitAt-xor, putAt, length-put, xorWords, length-xorWords, words-put, words-xor}
-use Rattle.bits.specs.Vec.{vec, length-vec, bitAt-vec, words-vec, vec-unique}
-use Rattle.bits.specs.Rows.{countBelow, rowsBelow, countOf, rowsOf, rows-ext, count-ext}
+use Rattle.bits.specs.Bit.{xorb, bit}
+use Rattle.bits.proofs.BitLaws.{bit-of-zero}
+use Rattle.bits.proofs.Cases.{lt-cases}
+use Rattle.bits.specs.Words.{bitAt, Words, putAt, xorWords}
+use Rattle.bits.proofs.WordLaws.{bitAt-put, bitAt-xor, length-put, length-xorWords, words-put, words-xor}
+use Rattle.bits.specs.Vec.{vec}
+use Rattle.bits.proofs.VecLaws.{length-vec, bitAt-vec, words-vec, vec-unique}
+use Rattle.bits.specs.Rows.{countBelow, rowsBelow, countOf, rowsOf}
+use Rattle.bits.proofs.RowLaws.{rows-ext, count-ext}
 
 module _ (f : ℕ → Bool) (n : ℕ) where
   pub rowsOf-vec : rowsOf (vec f n) ≡ rowsBelow f (n * 64)
