@@ -1,7 +1,6 @@
 -- The vocabulary of bits: numbers by their bits, vectors by their rows, columns by their vectors.
 -- Assumes nothing.
 
-pub mod Cases
 pub mod Choice
 pub mod All
 pub mod OrWords
@@ -13,10 +12,6 @@ pub mod Words
 pub mod Vec
 pub mod Tail
 pub mod Rows
-pub mod Scan
-pub mod VecOps
 pub mod Vectors
 pub mod Column
-pub mod Columns
-pub mod Reads
 pub mod Examples

@@ -2,12 +2,9 @@
 // The contracts cite specs/, where `vec f n` is the n words whose row r is f r. Assumes nothing.
 mod columns;
 mod numbers;
-mod rows;
 mod sets;
 mod vectors;
 
-pub use columns::fill_column;
-pub use columns::fill_part;
 pub use columns::set_columns;
 pub use numbers::long;
 pub use numbers::narrow;
@@ -15,19 +12,15 @@ pub use numbers::short;
 pub use numbers::wide;
 pub use numbers::wide_byte;
 pub use numbers::wide_short;
-pub use rows::list_rows;
 pub use sets::all_below;
 pub use sets::has;
-pub use sets::single;
 pub use sets::toggle;
 pub use sets::without;
 pub use vectors::clear;
 pub use vectors::copy;
 pub use vectors::count;
-pub use vectors::flip;
 pub use vectors::get;
 pub use vectors::get_in;
-pub use vectors::put;
 pub use vectors::put_in;
 pub use vectors::tail_clear;
 pub use vectors::tails_clear;

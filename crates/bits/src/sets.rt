@@ -29,14 +29,6 @@ pub fn without(set: u32, v: u32) -> u32
     (set | (1 << v)) ^ (1 << v)
 }
 
-// The set of v alone.
-pub fn single(v: u32) -> u32
-    requires { ⌜ v < 32 ⌝ }
-    ensures { λ r. ⌜ r ≡ 2 ^ v ⌝ }
-{
-    1 << v
-}
-
 // Whether every value of the set is below c.
 pub fn all_below(set: u32, c: u32) -> bool
     ensures { λ r. ⌜ r ≡ setBelow set c ⌝ }

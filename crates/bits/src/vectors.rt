@@ -4,7 +4,7 @@ ghost use mathlib.Core.Path.{_≡_};
 ghost use mathlib.Core.Bool.{false};
 ghost use Prim.Native.Nat.{_+_, _*_, _≤_, _<_};
 ghost use lib.ListN.{length};
-ghost use Rattle.bits.specs.Words.{bitAt, putBit, flipAt, putAt, xorWords};
+ghost use Rattle.bits.specs.Words.{bitAt, putBit, putAt, xorWords};
 ghost use Rattle.bits.specs.Vec.{vec};
 ghost use Rattle.bits.specs.Rows.{countOf};
 ghost use Rattle.bits.specs.Tail.{tailClear, zerosFrom};
@@ -50,26 +50,6 @@ pub fn put_in(ws: &mut [u64; 32], row: usize, on: bool)
     let i = (row / 64) % 32;
     let k = row % 64;
     ws[i] = with_bit(ws[i], k, on);
-}
-
-// Row `row` is made `on`.
-pub fn put(ws: &mut [u64], row: usize, on: bool)
-    requires { ⌜ row < length (now ws) * 64 ⌝ }
-    ensures { λ _. ⌜ now (ws .exit) ≡ putAt (now (ws .entry)) row on ⌝ }
-{
-    let i = row / 64;
-    let k = row % 64;
-    ws[i] = with_bit(ws[i], k, on);
-}
-
-// Row `row` is turned over.
-pub fn flip(ws: &mut [u64], row: usize)
-    requires { ⌜ row < length (now ws) * 64 ⌝ }
-    ensures { λ _. ⌜ now (ws .exit) ≡ flipAt (now (ws .entry)) row ⌝ }
-{
-    let i = row / 64;
-    let k = row % 64;
-    ws[i] = ws[i] ^ (1 << k);
 }
 
 // The words of `a` with the rows of `mask` turned over.

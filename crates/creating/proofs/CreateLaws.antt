@@ -5,15 +5,17 @@ use mathlib.Core.Bool.{Bool, true, false, not, cond, _&&_, _||_}
 use mathlib.Core.Option.{none, some}
 use mathlib.Core.List.{List, [], _∷_, _++_}
 use mathlib.Core.Logic.{_⊎_, inl, inr}
-use Prim.Native.Nat.{ℕ, _+_, _-_, _≤_, _<_}
+use Prim.Native.Nat.{ℕ, _+_, _-_, _≤_, _<_, zero-le}
 use native.Mathlib.Omega.{arith}
 use borrow.Author.Tests.{eq-eqb, ne-eqb, le-leb, lt-leb, lt-ltb, le-ltb, ltb-false, not-true, not-false}
 use lib.Dec.{eqb, leb, ltb}
-use lib.ListN.{length, getD, take, drop, set, replicate, length-map, length-replicate, getD-replicate, List·getD-append}
-use lib.Seq.{sets-eq, length-take-le, take-all, ext-getD, getD-append-add, getD-drop}
-use Rattle.bits.specs.Cases.{lt-cases, eq-cases}
-use Rattle.bits.specs.Tab.{tab, over, length-tab, getD-tab, length-over, Filled, filled-more}
-use Rattle.bits.specs.Vec.{vec, length-vec, bitAt-vec, vec-ext}
+use lib.ListN.{length, getD, take, drop, set, replicate, length-map, length-replicate, getD-replicate}
+use lib.Seq.{sets-eq, length-take-le, take-all, ext-getD}
+use Rattle.bits.proofs.Cases.{lt-cases, eq-cases}
+use Rattle.bits.specs.Tab.{tab, over}
+use Rattle.bits.proofs.TabLaws.{length-tab, getD-tab, Filled, filled-more}
+use Rattle.bits.specs.Vec.{vec}
+use Rattle.bits.proofs.VecLaws.{length-vec, bitAt-vec, vec-ext}
 use Rattle.bits.specs.Words.{bitAt}
 use Rattle.bits.specs.Column.{columnBit, valueOf}
 use Rattle.rules.specs.Limits.{maxValues, maxRows}
@@ -141,66 +143,26 @@ narrowed-low C l = go (narrow-cases C)
 
 -- ---- cells
 
-zeros-tab : (n : ℕ) → tab {A = ℕ} (λ i. 0) n ≡ replicate n 0
-zeros-tab n =
-    let z : ℕ → ℕ = λ i. 0 in
-    ext-getD 0 (tab z n) (replicate n 0) (length-tab z n ∙ sym (length-replicate n 0))
-    (λ i h. let l : i < n = omega (arith, length-tab z n) in getD-tab z n i 0 l ∙ sym (getD-replicate n i 0 0 l))
+-- the first cells get their own numbers, the others become 0
+module _ (c : ℕ) (d₀ d : List ℕ) (i : ℕ) (f : Filled (below c) d₀ d i) where
+  pub number-more : (C n v : ℕ) → c ≡ C → C ≤ n → n ≤ length d₀ → i < c → v ≡ i → Filled (below c) d₀ (set d i v) (i + 1)
+  number-more C n v q m room h e =
+      filled-more (below c) f (omega (arith, f .same)) (e ∙ ap (λ (t : Bool). cond t i 0) (sym (lt-ltb i c h)))
 
--- a loop that has filled the first n cells
-pub filled-to : (g : ℕ → ℕ) (d₀ d : List ℕ) (i n : ℕ) → Filled g d₀ d i → i ≤ n → n ≤ i → d ≡ over (tab g n) d₀
-filled-to g d₀ d i n f h l = let e : i ≡ n = omega arith in f .sofar ∙ ap (λ (k : ℕ). over (tab g k) d₀) e
+  pub zero-more : (n : ℕ) → n ≤ length d₀ → c ≤ i → i < n → Filled (below c) d₀ (set d i 0) (i + 1)
+  zero-more n room h l = filled-more (below c) f (omega (arith, f .same)) (ap (λ (t : Bool). cond t i 0) (sym (le-ltb i c h)))
 
-pub zeros-to : (d₀ d : List ℕ) (i n : ℕ) → Filled (λ k. 0) d₀ d i → i ≤ n → n ≤ i → d ≡ over (replicate n 0) d₀
-zeros-to d₀ d i n f h l = filled-to (λ k. 0) d₀ d i n f h l ∙ ap (λ (z : List ℕ). over z d₀) (zeros-tab n)
+  pub numbered-to : (C n : ℕ) → c ≡ C → i ≤ n → n ≤ i → d ≡ over (tab (below C) n) d₀
+  numbered-to C n q h l = let e : i ≡ n = omega arith in f .sofar ∙ ap₂ (λ (x k : ℕ). over (tab (below x) k) d₀) q e
 
--- the cells of a list stored over another
-over-at : (l d : List ℕ) (i : ℕ) → i < length l → getD (over l d) i 0 ≡ getD l i 0
-over-at l d i h = List·getD-append l (drop (length l) d) 0 i h
-
-over-past : (l d : List ℕ) (i : ℕ) → length l ≤ i → getD (over l d) i 0 ≡ getD d i 0
-over-past l d i h =
-    let e : i ≡ length l + (i - length l) = omega arith in
-    ap (λ (k : ℕ). getD (over l d) k 0) e ∙ getD-append-add l (drop (length l) d) (i - length l) 0 ∙ getD-drop (length l) d (i - length l) 0
-    ∙ ap (λ (k : ℕ). getD d k 0) (sym e)
-
--- a cell that becomes 0
-pub zero-more : (d₀ d : List ℕ) (i n : ℕ) → Filled (λ k. 0) d₀ d i → i < n → n ≤ length d₀ → Filled (λ k. 0) d₀ (set d i 0) (i + 1)
-zero-more d₀ d i n f h l = filled-more (λ k. 0) f (omega (arith, f .same)) refl
-
--- a cell that gets its own number
-pub number-more : (d₀ d : List ℕ) (v c i : ℕ) → Filled (λ k. k) d₀ d v → v < c → c ≤ length d₀ → i ≡ v → Filled (λ k. k) d₀ (set d i v) (v + 1)
-number-more d₀ d v c i f h l e =
-    rw e (filled-more (λ k. k) f (omega (arith, f .same)) refl)
-
--- numbers over zeros
-pub number-zeros : (c n : ℕ) (s z m : List ℕ) → c ≤ n → n ≤ length s → z ≡ over (replicate n 0) s → m ≡ over (tab (λ i. i) c) z → m ≡ over (tab (below c) n) s
-number-zeros c n s z m h l e q =
-    q ∙ ap (over (tab (λ i. i) c)) e
-    ∙ ext-getD 0 (over (tab (λ i. i) c) (over (replicate n 0) s)) (over (tab (below c) n) s) (long ∙ sym whole) (λ i k. at i (lt-cases i c) (lt-cases i n))
-  where
-    zeros : length (over (replicate n 0) s) ≡ length s
-    zeros = length-over (replicate n 0) s (omega (arith, length-replicate {A = ℕ} n 0))
-
-    long : length (over (tab (λ i. i) c) (over (replicate n 0) s)) ≡ length s
-    long = length-over (tab (λ i. i) c) (over (replicate n 0) s) (omega (arith, zeros, length-tab {A = ℕ} (λ i. i) c)) ∙ zeros
-
-    whole : length (over (tab (below c) n) s) ≡ length s
-    whole = length-over (tab (below c) n) s (omega (arith, length-tab (below c) n))
-
-    at : (i : ℕ) → (i < c) ⊎ (c ≤ i) → (i < n) ⊎ (n ≤ i) → getD (over (tab (λ i. i) c) (over (replicate n 0) s)) i 0 ≡ getD (over (tab (below c) n) s) i 0
-    at i (inl a) (inl b) =
-        over-at (tab (λ i. i) c) (over (replicate n 0) s) i (omega (arith, length-tab {A = ℕ} (λ i. i) c)) ∙ getD-tab (λ i. i) c i 0 a
-        ∙ sym (over-at (tab (below c) n) s i (omega (arith, length-tab (below c) n)) ∙ getD-tab (below c) n i 0 b ∙ ap (λ (t : Bool). cond t i 0) (lt-ltb i c a))
-    at i (inl a) (inr b) = absurd (omega arith)
-    at i (inr a) (inl b) =
-        over-past (tab (λ i. i) c) (over (replicate n 0) s) i (omega (arith, length-tab {A = ℕ} (λ i. i) c))
-        ∙ over-at (replicate n 0) s i (omega (arith, length-replicate {A = ℕ} n 0)) ∙ getD-replicate n i 0 0 b
-        ∙ sym (over-at (tab (below c) n) s i (omega (arith, length-tab (below c) n)) ∙ getD-tab (below c) n i 0 b ∙ ap (λ (t : Bool). cond t i 0) (le-ltb i c a))
-    at i (inr a) (inr b) =
-        over-past (tab (λ i. i) c) (over (replicate n 0) s) i (omega (arith, length-tab {A = ℕ} (λ i. i) c))
-        ∙ over-past (replicate n 0) s i (omega (arith, length-replicate {A = ℕ} n 0))
-        ∙ sym (over-past (tab (below c) n) s i (omega (arith, length-tab (below c) n)))
+-- no number is zeros
+pub zeros-made : (n : ℕ) (d₀ d : List ℕ) → d ≡ over (tab (below 0) n) d₀ → d ≡ over (replicate n 0) d₀
+zeros-made n d₀ d e =
+    e
+    ∙ ap (λ (z : List ℕ). over z d₀)
+    (ext-getD 0 (tab (below 0) n) (replicate n 0) (length-tab (below 0) n ∙ sym (length-replicate n 0))
+    (λ i h. let l : i < n = omega (arith, length-tab (below 0) n) in
+    getD-tab (below 0) n i 0 l ∙ ap (λ (t : Bool). cond t i 0) (le-ltb i 0 zero-le) ∙ sym (getD-replicate n i 0 0 l)))
 
 -- ---- vectors and the clock
 

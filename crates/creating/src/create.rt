@@ -52,39 +52,29 @@ fn column_refused(values: Value, column: &[u8]) -> bool
     !column_known(column, values)
 }
 
-// The first n cells become 0.
-fn zero_cells(cells: &mut [u32], n: usize)
-    requires { ⌜ n ≤ length (now cells) ⌝ }
-    ensures { λ _. ⌜ now (cells .exit) ≡ over (replicate n 0) (now (cells .entry)) ⌝ }
+// The first n cells: one for each value becomes its own number, the others 0.
+fn numbered(cells: &mut [u32], n: usize, values: Value)
+    requires { ⌜ (values .0 ≤ n) × (n ≤ length (now cells)) ⌝ }
+    ensures { λ _. ⌜ now (cells .exit) ≡ over (tab (below (values .0)) n) (now (cells .entry)) ⌝ }
 {
+    let c = bits::wide(values.0);
     let mut i: usize = 0;
+    while i < c {
+        cells[i] = bits::narrow(i);
+        i += 1;
+    }
     while i < n {
         cells[i] = 0;
         i += 1;
     }
 }
 
-// The first cells, one for each value, become their own numbers.
-fn number_cells(cells: &mut [u32], values: Value)
-    requires { ⌜ values .0 ≤ length (now cells) ⌝ }
-    ensures { λ _. ⌜ now (cells .exit) ≡ over (tab (λ i. i) (values .0)) (now (cells .entry)) ⌝ }
+// The first n cells become 0.
+fn zero_cells(cells: &mut [u32], n: usize)
+    requires { ⌜ n ≤ length (now cells) ⌝ }
+    ensures { λ _. ⌜ now (cells .exit) ≡ over (replicate n 0) (now (cells .entry)) ⌝ }
 {
-    let c = values.0;
-    let mut k: u32 = 0;
-    while k < c {
-        let i = bits::wide(k);
-        cells[i] = k;
-        k += 1;
-    }
-}
-
-// The first n cells: one for each value becomes its own number, the others 0.
-fn numbered(cells: &mut [u32], n: usize, values: Value)
-    requires { ⌜ (values .0 ≤ n) × (n ≤ length (now cells)) ⌝ }
-    ensures { λ _. ⌜ now (cells .exit) ≡ over (tab (below (values .0)) n) (now (cells .entry)) ⌝ }
-{
-    zero_cells(cells, n);
-    number_cells(cells, values);
+    numbered(cells, n, Value(0));
 }
 
 // The vectors of a column, and of every other slot none.

@@ -1,65 +1,36 @@
--- `bits::columns::set_columns` meets its contract. The invariant: the first r rows of the column are set (`Placed`). The measure is what is left of the column.
+-- `bits::columns::set_columns` meets its contract. The invariant: the rows of the words before i are set.
+-- The measure is what is left of the column.
 -- Assumes nothing.
-use Prim.Native.Nat.{_-_}
+use mathlib.Core.Path.{_≡_}
+use Prim.Native.Nat.{_*_, _/_, _%_, _-_, _≤_}
 use native.Mathlib.Omega.{arith}
 use borrow.Author.Needs.{needs}
 use lib.ListN.{length}
-use Rattle.bits.specs.Columns.{Placed, placed-none, placed-more, placed-all}
+use Rattle.bits.specs.Column.{columnBit}
+use Rattle.bits.proofs.ColumnLaws.{Grown, grown-none, word-more, words-end}
 use Rattle.bits.proofs.columns.set_columns.Statement.{statement}
 use Rattle.bits.proofs.columns.set_columns.Tie as tie
 
 abbrev Inv-loop : tie.InvT-loop
-Inv-loop words₀ col r₀ words r = Placed words₀ col words r
+Inv-loop words₀ col own₀ i₀ words own i = Grown (λ q. q % 2048 / 64) (columnBit col) words₀ words i × (i ≤ 32) × (length own ≡ 256)
 
 abbrev μ-loop : tie.MeasureT-loop
-μ-loop words₀ col r₀ words r = length col - r
+μ-loop words₀ col own₀ i₀ words own i = length col - i * 64
 
 loop-holds : tie.Need-loop-holds Inv-loop μ-loop
-loop-holds c = placed-none (c .before .before .args .words .now) (c .before .before .args .col .now) (λ i. c .before .slice-known .given i .fits)
-
-shared-slice-read-b : tie.Need-shared-slice-read-b Inv-loop μ-loop
-shared-slice-read-b c = search needs
-
-cast-i : tie.Need-cast-i Inv-loop μ-loop
-cast-i c = search needs
-
-mul-i : tie.Need-mul-i Inv-loop μ-loop
-mul-i c = search needs
-
-add-i : tie.Need-add-i Inv-loop μ-loop
-add-i c = search needs
-
-mul-set-if : tie.Need-mul-set-if Inv-loop μ-loop
-mul-set-if c = search needs
-
-slice-read-set-if : tie.Need-slice-read-set-if Inv-loop μ-loop
-slice-read-set-if c = search needs
-
-set-if-requires : tie.Need-set-if-requires Inv-loop μ-loop
-set-if-requires c κs = search needs
-
-mul-words : tie.Need-mul-words Inv-loop μ-loop
-mul-words c = search needs
-
-slice-write-words : tie.Need-slice-write-words Inv-loop μ-loop
-slice-write-words c = search needs
-
-add-r : tie.Need-add-r Inv-loop μ-loop
-add-r c = search needs
-
-loop-less : tie.Need-loop-less Inv-loop μ-loop
-loop-less c = search needs
+loop-holds c =
+    let s = c .before .before .args in
+    let fits = c .before .slice-known .given in
+    (grown-none (λ q. q % 2048 / 64) (columnBit (s .col .now)) (s .words .now) (λ i. fits i .fits), search needs, search needs)
 
 loop-again : tie.Need-loop-again Inv-loop μ-loop
-loop-again c =
-    let s = c .before .before .before .before .before .before .before .args in
-    placed-more (s .words .now) (s .col .now) (omega arith) (omega arith) (c .before .before .before .before .loop .inv) (omega arith) (c .set-if .ensures)
-
-same-length : tie.Need-same-length Inv-loop μ-loop
-same-length c = search needs
+loop-again c = (search word-more, search needs, search needs)
 
 returns : tie.Need-returns Inv-loop μ-loop
-returns c = placed-all (c .before .before .before .before .args .words .now) (c .before .before .before .before .args .col .now) (c .before .loop .inv) (c .loop-test .left)
+returns c =
+    let s = c .before .before .before .before .args in
+    let l = c .before .loop in
+    words-end (s .col .now) (s .words .now) (l .words) (l .i) (l .inv .0) (omega arith)
 
 pub set-columns-spec : {M : Type 1} → statement M
 set-columns-spec =
@@ -68,17 +39,11 @@ set-columns-spec =
     Inv-loop
     μ-loop
     loop-holds
-    shared-slice-read-b
-    cast-i
-    mul-i
-    add-i
-    mul-set-if
-    slice-read-set-if
-    set-if-requires
-    mul-words
-    slice-write-words
-    add-r
-    loop-less
+    (λ c. search needs)
+    (λ c. search needs)
+    (λ c κs. search needs)
+    (λ c. search needs)
+    (λ c. search needs)
     loop-again
-    same-length
+    (λ c. search needs)
     returns)

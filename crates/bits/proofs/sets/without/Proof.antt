@@ -4,19 +4,14 @@ use mathlib.Core.Path.{ap}
 use Prim.Native.Nat.{ℕ}
 use borrow.Author.Needs.{needs}
 use lib.Bits.{bitOr, bitXor}
-use Rattle.bits.specs.Bit.{clearBit, one-shl}
+use Rattle.bits.specs.Bit.{clearBit}
+use Rattle.bits.proofs.BitLaws.{one-shl}
 use Rattle.bits.proofs.sets.without.Statement.{statement}
 use Rattle.bits.proofs.sets.without.Tie as tie
-
-shl-result : tie.Need-shl-result
-shl-result c = search needs
-
-shl-result-2 : tie.Need-shl-result-2
-shl-result-2 c = search needs
 
 returns : tie.Need-returns
 unfolding clearBit
 returns c = ap (λ (m : ℕ). bitXor (bitOr (c .args .set) m) m) (one-shl 32 (c .args .v) (c .pre))
 
 pub without-spec : {M : Type 1} → statement M
-without-spec = tie.close (tie.spec shl-result shl-result-2 returns)
+without-spec = tie.close (tie.spec (λ c. search needs) (λ c. search needs) returns)

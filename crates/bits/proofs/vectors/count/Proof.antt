@@ -7,7 +7,8 @@ use borrow.Author.Needs.{needs}
 use lib.ListN.{length, getD}
 use lib.Count.{ones, ones-le}
 use Rattle.bits.specs.Words.{bitAt}
-use Rattle.bits.specs.Rows.{countBelow, countOf, count-le, count-word}
+use Rattle.bits.specs.Rows.{countBelow, countOf}
+use Rattle.bits.proofs.RowLaws.{count-le, count-word}
 use Rattle.bits.proofs.vectors.count.Statement.{statement}
 use Rattle.bits.proofs.vectors.count.Tie as tie
 
@@ -21,12 +22,6 @@ loop-holds : tie.Need-loop-holds Inv-loop μ-loop
 unfolding countBelow
 loop-holds c = search needs
 
-mul-n : tie.Need-mul-n Inv-loop μ-loop
-mul-n c = search needs
-
-shared-slice-read-n : tie.Need-shared-slice-read-n Inv-loop μ-loop
-shared-slice-read-n c = search needs
-
 -- a word has at most 64 bits set
 few : (c : tie.After-shared-slice-known Inv-loop μ-loop) → ones (getD (c .before .before .before .args .ws .now) (c .before .before .loop .i) 0) ≤ 64
 few c = ones-le 64 (getD (c .before .before .before .args .ws .now) (c .before .before .loop .i) 0) (c .shared-slice-known .given (c .before .before .loop .i) .fits)
@@ -36,12 +31,6 @@ cast-n c = omega (arith, few c)
 
 add-n : tie.Need-add-n Inv-loop μ-loop
 add-n c = omega (arith, few c, count-le (bitAt (c .before .before .before .args .ws .now)) (c .before .before .loop .i * 64))
-
-add-i : tie.Need-add-i Inv-loop μ-loop
-add-i c = search needs
-
-loop-less : tie.Need-loop-less Inv-loop μ-loop
-loop-less c = search needs
 
 loop-again : tie.Need-loop-again Inv-loop μ-loop
 loop-again c =
@@ -63,11 +52,11 @@ count-spec =
     Inv-loop
     μ-loop
     loop-holds
-    mul-n
-    shared-slice-read-n
+    (λ c. search needs)
+    (λ c. search needs)
     cast-n
     add-n
-    add-i
-    loop-less
+    (λ c. search needs)
+    (λ c. search needs)
     loop-again
     returns)

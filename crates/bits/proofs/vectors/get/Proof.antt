@@ -4,18 +4,10 @@ use mathlib.Core.Path.{refl, sym}
 use native.Mathlib.Omega.{arith}
 use borrow.Author.Needs.{needs}
 use Rattle.bits.specs.Bit.{bit}
-use Rattle.bits.specs.Words.{bitAt, bitAt-above}
+use Rattle.bits.specs.Words.{bitAt}
+use Rattle.bits.proofs.WordLaws.{bitAt-above}
 use Rattle.bits.proofs.vectors.get.Statement.{statement}
 use Rattle.bits.proofs.vectors.get.Tie as tie
-
-mul-result : tie.Need-mul-result
-mul-result c = search needs
-
-shared-slice-read-result : tie.Need-shared-slice-read-result
-shared-slice-read-result c = search needs
-
-shr-result : tie.Need-shr-result
-shr-result c = search needs
 
 returns : tie.Need-returns
 unfolding bitAt bit
@@ -25,4 +17,4 @@ returns-2 : tie.Need-returns-2
 returns-2 c = sym (bitAt-above (c .before .args .ws .now) (c .before .args .row) (omega arith))
 
 pub get-spec : {M : Type 1} → statement M
-get-spec = tie.close (tie.spec mul-result shared-slice-read-result shr-result returns returns-2)
+get-spec = tie.close (tie.spec (λ c. search needs) (λ c. search needs) (λ c. search needs) returns returns-2)

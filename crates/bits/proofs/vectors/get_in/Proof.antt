@@ -9,18 +9,9 @@ use Rattle.bits.specs.Words.{bitAt}
 use Rattle.bits.proofs.vectors.get_in.Statement.{statement}
 use Rattle.bits.proofs.vectors.get_in.Tie as tie
 
-mul-result : tie.Need-mul-result
-mul-result c = search needs
-
-element-copy-out-result : tie.Need-element-copy-out-result
-element-copy-out-result c = search needs
-
-shr-result : tie.Need-shr-result
-shr-result c = search needs
-
 returns : tie.Need-returns
 unfolding bitAt bit
 returns c = let e : c .before .args .row / 64 % 32 ≡ c .before .args .row / 64 = omega arith in rw e
 
 pub get-in-spec : {M : Type 1} → statement M
-get-in-spec = tie.close (tie.spec mul-result element-copy-out-result shr-result returns)
+get-in-spec = tie.close (tie.spec (λ c. search needs) (λ c. search needs) (λ c. search needs) returns)

@@ -9,21 +9,6 @@ use Rattle.bits.specs.Words.{putAt}
 use Rattle.bits.proofs.vectors.put_in.Statement.{statement}
 use Rattle.bits.proofs.vectors.put_in.Tie as tie
 
-mul-with-bit : tie.Need-mul-with-bit
-mul-with-bit c = search needs
-
-element-copy-out-with-bit : tie.Need-element-copy-out-with-bit
-element-copy-out-with-bit c = search needs
-
-with-bit-requires : tie.Need-with-bit-requires
-with-bit-requires c κs = search needs
-
-mul-ws : tie.Need-mul-ws
-mul-ws c = search needs
-
-element-write-ws : tie.Need-element-write-ws
-element-write-ws c = search needs
-
 returns : tie.Need-returns
 unfolding putAt
 returns c =
@@ -35,9 +20,9 @@ pub put-in-spec : {M : Type 1} → statement M
 put-in-spec =
     tie.close
     (tie.spec
-    mul-with-bit
-    element-copy-out-with-bit
-    with-bit-requires
-    mul-ws
-    element-write-ws
+    (λ c. search needs)
+    (λ c. search needs)
+    (λ c κs. search needs)
+    (λ c. search needs)
+    (λ c. search needs)
     returns)

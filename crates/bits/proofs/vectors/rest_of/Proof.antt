@@ -4,8 +4,9 @@ use mathlib.Core.Path.{_≡_}
 use Prim.Native.Nat.{_+_, _-_, _*_, _≤_}
 use borrow.Author.Needs.{needs}
 use lib.ListN.{getD}
-use Rattle.bits.specs.OrWords.{orFrom, from-none}
-use Rattle.bits.specs.Vectors.{rest-more, rest-end}
+use Rattle.bits.specs.OrWords.{orFrom}
+use Rattle.bits.proofs.OrLaws.{from-none}
+use Rattle.bits.proofs.VectorLaws.{rest-more, rest-end}
 use Rattle.bits.proofs.vectors.rest_of.Statement.{statement}
 use Rattle.bits.proofs.vectors.rest_of.Tie as tie
 
@@ -15,26 +16,8 @@ Inv-loop words from i a all₀ j₀ all j = (a ≡ 32 * i) × (from ≤ j) × (j
 abbrev μ-loop : tie.MeasureT-loop
 μ-loop words from i a all₀ j₀ all j = 32 - j
 
-mul-a : tie.Need-mul-a Inv-loop μ-loop
-mul-a c = search needs
-
 loop-holds : tie.Need-loop-holds Inv-loop μ-loop
 loop-holds c = (search needs, search needs, search needs, search from-none)
-
-add-all : tie.Need-add-all Inv-loop μ-loop
-add-all c = search needs
-
-mul-all : tie.Need-mul-all Inv-loop μ-loop
-mul-all c = search needs
-
-shared-slice-read-all : tie.Need-shared-slice-read-all Inv-loop μ-loop
-shared-slice-read-all c = search needs
-
-add-j : tie.Need-add-j Inv-loop μ-loop
-add-j c = search needs
-
-loop-less : tie.Need-loop-less Inv-loop μ-loop
-loop-less c = search needs
 
 loop-again : tie.Need-loop-again Inv-loop μ-loop
 loop-again c = (search needs, search needs, search needs, search rest-more)
@@ -48,12 +31,12 @@ rest-of-spec =
     (tie.spec
     Inv-loop
     μ-loop
-    mul-a
+    (λ c. search needs)
     loop-holds
-    add-all
-    mul-all
-    shared-slice-read-all
-    add-j
-    loop-less
+    (λ c. search needs)
+    (λ c. search needs)
+    (λ c. search needs)
+    (λ c. search needs)
+    (λ c. search needs)
     loop-again
     returns)

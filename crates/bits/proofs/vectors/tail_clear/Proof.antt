@@ -7,27 +7,12 @@ use native.Mathlib.Omega.{arith}
 use borrow.Author.Needs.{needs}
 use lib.Dec.{eqb}
 use lib.ListN.{getD}
-use Rattle.bits.specs.Tail.{tail-past, tail-words}
+use Rattle.bits.proofs.TailLaws.{tail-past, tail-words}
 use Rattle.bits.proofs.vectors.tail_clear.Statement.{statement}
 use Rattle.bits.proofs.vectors.tail_clear.Tie as tie
 
 returns : tie.Need-returns
 returns c = sym (tail-past (c .before .before .args .ws .now) (c .before .before .args .n) (omega arith))
-
-mul-result : tie.Need-mul-result
-mul-result c = search needs
-
-shared-slice-read-result : tie.Need-shared-slice-read-result
-shared-slice-read-result c = search needs
-
-shr-result : tie.Need-shr-result
-shr-result c = search needs
-
-add-zero-from : tie.Need-add-zero-from
-add-zero-from c = search needs
-
-zero-from-requires : tie.Need-zero-from-requires
-zero-from-requires c κs = search needs
 
 returns-2 : tie.Need-returns-2
 returns-2 c =
@@ -40,9 +25,9 @@ tail-clear-spec =
     tie.close
     (tie.spec
     returns
-    mul-result
-    shared-slice-read-result
-    shr-result
-    add-zero-from
-    zero-from-requires
+    (λ c. search needs)
+    (λ c. search needs)
+    (λ c. search needs)
+    (λ c. search needs)
+    (λ c κs. search needs)
     returns-2)

@@ -7,7 +7,8 @@ use native.Mathlib.Omega.{arith}
 use borrow.Author.Needs.{needs}
 use borrow.Author.Tests.{eq-eqb, ne-eqb}
 use lib.Dec.{eqb}
-use Rattle.bits.specs.Vectors.{tails-past, tails-words, zerosOfAll}
+use Rattle.bits.specs.Vectors.{zerosOfAll}
+use Rattle.bits.proofs.VectorLaws.{tails-past, tails-words}
 use Rattle.bits.proofs.vectors.tails_clear.Statement.{statement}
 use Rattle.bits.proofs.vectors.tails_clear.Tie as tie
 
@@ -16,24 +17,12 @@ returns c =
     let s = c .before .before .args in
     sym (tails-past (s .words .now) (s .n) (s .row) (λ i. c .before .shared-slice-known .given i .fits) (omega arith) (omega arith))
 
-word-of-all-requires : tie.Need-word-of-all-requires
-word-of-all-requires c κs = search needs
-
-shr-if2 : tie.Need-shr-if2
-shr-if2 c = search needs
-
 returns-2 : tie.Need-returns-2
 returns-2 c =
     let s = c .before .before .before .before .args in
     ap (λ (t : Bool). t && zerosOfAll (s .words .now) (s .n) (s .row / 64 + 1))
     (sym (ne-eqb (c .before .word-of-all .result / 2 ^ (s .row % 64)) 0 (c .if2 .taken)) ∙ ap (λ (w : ℕ). eqb (w / 2 ^ (s .row % 64)) 0) (c .before .word-of-all .ensures))
     ∙ tails-words (s .words .now) (s .n) (s .row) (λ i. c .before .before .before .shared-slice-known .given i .fits) (omega arith) (omega arith)
-
-add-zero-in-all : tie.Need-add-zero-in-all
-add-zero-in-all c = search needs
-
-zero-in-all-requires : tie.Need-zero-in-all-requires
-zero-in-all-requires c κs = search needs
 
 returns-3 : tie.Need-returns-3
 returns-3 c =
@@ -48,9 +37,9 @@ tails-clear-spec =
     tie.close
     (tie.spec
     returns
-    word-of-all-requires
-    shr-if2
+    (λ c κs. search needs)
+    (λ c. search needs)
     returns-2
-    add-zero-in-all
-    zero-in-all-requires
+    (λ c. search needs)
+    (λ c κs. search needs)
     returns-3)

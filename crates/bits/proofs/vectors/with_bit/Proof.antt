@@ -1,12 +1,10 @@
 -- `bits::vectors::with_bit` meets its contract. `1 << k` is 2 ^ k, and each branch is the definition of `setBit` or `clearBit`.
 -- Assumes nothing.
 use borrow.Author.Needs.{needs}
-use Rattle.bits.specs.Bit.{setBit, clearBit, one-shl}
+use Rattle.bits.specs.Bit.{setBit, clearBit}
+use Rattle.bits.proofs.BitLaws.{one-shl}
 use Rattle.bits.proofs.vectors.with_bit.Statement.{statement}
 use Rattle.bits.proofs.vectors.with_bit.Tie as tie
-
-shl-m : tie.Need-shl-m
-shl-m c = search needs
 
 returns : tie.Need-returns
 unfolding setBit
@@ -17,4 +15,4 @@ unfolding clearBit
 returns-2 c = rw (one-shl 64 (c .before .args .k) (c .before .pre), c .if1 .left)
 
 pub with-bit-spec : {M : Type 1} → statement M
-with-bit-spec = tie.close (tie.spec shl-m returns returns-2)
+with-bit-spec = tie.close (tie.spec (λ c. search needs) returns returns-2)

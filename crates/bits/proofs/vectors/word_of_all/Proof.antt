@@ -5,7 +5,8 @@ use Prim.Native.Nat.{_+_, _-_, _*_, _≤_}
 use native.Mathlib.Omega.{arith}
 use borrow.Author.Needs.{needs}
 use lib.ListN.{getD}
-use Rattle.bits.specs.OrWords.{orBelow, or-zero, or-more}
+use Rattle.bits.specs.OrWords.{orBelow}
+use Rattle.bits.proofs.OrLaws.{or-zero, or-more}
 use Rattle.bits.specs.Vectors.{wordOfAll}
 use Rattle.bits.proofs.vectors.word_of_all.Statement.{statement}
 use Rattle.bits.proofs.vectors.word_of_all.Tie as tie
@@ -18,24 +19,6 @@ abbrev μ-loop : tie.MeasureT-loop
 
 loop-holds : tie.Need-loop-holds Inv-loop μ-loop
 loop-holds c = (search needs, search or-zero)
-
-mul-all : tie.Need-mul-all Inv-loop μ-loop
-mul-all c = search needs
-
-add-all : tie.Need-add-all Inv-loop μ-loop
-add-all c = search needs
-
-mul-all-2 : tie.Need-mul-all-2 Inv-loop μ-loop
-mul-all-2 c = search needs
-
-shared-slice-read-all : tie.Need-shared-slice-read-all Inv-loop μ-loop
-shared-slice-read-all c = search needs
-
-add-i : tie.Need-add-i Inv-loop μ-loop
-add-i c = search needs
-
-loop-less : tie.Need-loop-less Inv-loop μ-loop
-loop-less c = search needs
 
 loop-again : tie.Need-loop-again Inv-loop μ-loop
 loop-again c = (search needs, search or-more)
@@ -55,11 +38,11 @@ word-of-all-spec =
     Inv-loop
     μ-loop
     loop-holds
-    mul-all
-    add-all
-    mul-all-2
-    shared-slice-read-all
-    add-i
-    loop-less
+    (λ c. search needs)
+    (λ c. search needs)
+    (λ c. search needs)
+    (λ c. search needs)
+    (λ c. search needs)
+    (λ c. search needs)
     loop-again
     returns)

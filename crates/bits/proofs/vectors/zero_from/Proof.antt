@@ -6,7 +6,8 @@ use native.Mathlib.Omega.{arith}
 use borrow.Author.Needs.{needs}
 use lib.Dec.{eqb}
 use lib.ListN.{length, getD}
-use Rattle.bits.specs.OrWords.{orFrom, from-none, from-more, from-all}
+use Rattle.bits.specs.OrWords.{orFrom}
+use Rattle.bits.proofs.OrLaws.{from-none, from-more, from-all}
 use Rattle.bits.specs.Tail.{zerosFrom}
 use Rattle.bits.proofs.vectors.zero_from.Statement.{statement}
 use Rattle.bits.proofs.vectors.zero_from.Tie as tie
@@ -19,18 +20,6 @@ abbrev μ-loop : tie.MeasureT-loop
 
 loop-holds : tie.Need-loop-holds Inv-loop μ-loop
 loop-holds c = (search needs, search needs, search from-none)
-
-mul-all : tie.Need-mul-all Inv-loop μ-loop
-mul-all c = search needs
-
-shared-slice-read-all : tie.Need-shared-slice-read-all Inv-loop μ-loop
-shared-slice-read-all c = search needs
-
-add-i : tie.Need-add-i Inv-loop μ-loop
-add-i c = search needs
-
-loop-less : tie.Need-loop-less Inv-loop μ-loop
-loop-less c = search needs
 
 loop-again : tie.Need-loop-again Inv-loop μ-loop
 loop-again c =
@@ -54,9 +43,9 @@ zero-from-spec =
     Inv-loop
     μ-loop
     loop-holds
-    mul-all
-    shared-slice-read-all
-    add-i
-    loop-less
+    (λ c. search needs)
+    (λ c. search needs)
+    (λ c. search needs)
+    (λ c. search needs)
     loop-again
     returns)

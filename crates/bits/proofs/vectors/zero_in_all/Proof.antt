@@ -6,7 +6,8 @@ use native.Mathlib.Omega.{arith}
 use borrow.Author.Needs.{needs}
 use lib.Bits.{bitOr}
 use lib.Dec.{eqb}
-use Rattle.bits.specs.OrWords.{orBelow, or-zero, or-more, or-all}
+use Rattle.bits.specs.OrWords.{orBelow}
+use Rattle.bits.proofs.OrLaws.{or-zero, or-more, or-all}
 use Rattle.bits.specs.Vectors.{restOf, zerosOfAll}
 use Rattle.bits.proofs.vectors.zero_in_all.Statement.{statement}
 use Rattle.bits.proofs.vectors.zero_in_all.Tie as tie
@@ -19,15 +20,6 @@ abbrev μ-loop : tie.MeasureT-loop
 
 loop-holds : tie.Need-loop-holds Inv-loop μ-loop
 loop-holds c = (search needs, search or-zero)
-
-rest-of-requires : tie.Need-rest-of-requires Inv-loop μ-loop
-rest-of-requires c κs = search needs
-
-add-i : tie.Need-add-i Inv-loop μ-loop
-add-i c = search needs
-
-loop-less : tie.Need-loop-less Inv-loop μ-loop
-loop-less c = search needs
 
 loop-again : tie.Need-loop-again Inv-loop μ-loop
 loop-again c =
@@ -44,4 +36,4 @@ returns c =
     ap (λ (x : ℕ). eqb x 0) (l .inv .1 ∙ ap (orBelow (restOf (s .words .now) (s .from))) e) ∙ or-all (restOf (s .words .now) (s .from)) (s .n)
 
 pub zero-in-all-spec : {M : Type 1} → statement M
-zero-in-all-spec = tie.close (tie.spec Inv-loop μ-loop loop-holds rest-of-requires add-i loop-less loop-again returns)
+zero-in-all-spec = tie.close (tie.spec Inv-loop μ-loop loop-holds (λ c κs. search needs) (λ c. search needs) (λ c. search needs) loop-again returns)

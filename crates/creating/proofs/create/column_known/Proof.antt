@@ -14,20 +14,8 @@ Inv-loop column c n ok₀ r₀ ok r = (r ≤ length column) × (ok ≡ knownTo c
 abbrev μ-loop : tie.MeasureT-loop
 μ-loop column c n ok₀ r₀ ok r = length column - r
 
-cast-c : tie.Need-cast-c Inv-loop μ-loop
-cast-c c = search needs
-
 loop-holds : tie.Need-loop-holds Inv-loop μ-loop
 loop-holds c = (search needs, search known-none)
-
-shared-slice-read-b : tie.Need-shared-slice-read-b Inv-loop μ-loop
-shared-slice-read-b c = search needs
-
-add-r : tie.Need-add-r Inv-loop μ-loop
-add-r c = search needs
-
-loop-less : tie.Need-loop-less Inv-loop μ-loop
-loop-less c = search needs
 
 loop-again : tie.Need-loop-again Inv-loop μ-loop
 loop-again c = (search needs, search known-more)
@@ -38,4 +26,4 @@ returns c = search known-all
 pub column-known-spec : {M : Type 1} → statement M
 column-known-spec =
     tie.close
-    (tie.spec Inv-loop μ-loop cast-c loop-holds shared-slice-read-b add-r loop-less loop-again returns)
+    (tie.spec Inv-loop μ-loop (λ c. search needs) loop-holds (λ c. search needs) (λ c. search needs) (λ c. search needs) loop-again returns)

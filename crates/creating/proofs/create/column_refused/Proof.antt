@@ -11,14 +11,8 @@ returns c = search bad-none
 returns-2 : tie.Need-returns-2
 returns-2 c = search bad-many
 
-cast-if3 : tie.Need-cast-if3
-cast-if3 c = search needs
-
 returns-3 : tie.Need-returns-3
 returns-3 c = search bad-long
-
-column-known-requires : tie.Need-column-known-requires
-column-known-requires c κs = search needs
 
 returns-4 : tie.Need-returns-4
 returns-4 c = search bad-bytes
@@ -29,7 +23,7 @@ column-refused-spec =
     (tie.spec
     returns
     returns-2
-    cast-if3
+    (λ c. search needs)
     returns-3
-    column-known-requires
+    (λ c κs. search needs)
     returns-4)

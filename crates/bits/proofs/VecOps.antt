@@ -1,19 +1,22 @@
 -- What each operation makes of the vector of a function: rows put, turned over, listed, counted, none from a row on.
 -- Assumes nothing.
 use mathlib.Core.Path.{_≡_, sym, ap, _∙_, subst}
-use mathlib.Core.Bool.{Bool, true, false, cond}
+use mathlib.Core.Bool.{Bool, false, cond}
 use mathlib.Core.List.{List}
 use mathlib.Core.Logic.{⊎-elim}
 use Prim.Native.Nat.{ℕ, _*_, _/_, _%_, _^_, _≤_, _<_}
 use native.Mathlib.Omega.{arith}
 use lib.Dec.{eqb, lit<}
 use lib.ListN.{length, getD, replicate, length-replicate, getD-replicate, List·getD-eq-default}
-use Rattle.bits.specs.Bit.{xorb, bit, bit-of-zero}
-use Rattle.bits.specs.Cases.{lt-cases}
-use Rattle.bits.specs.Words.{bitAt, Words, bitAt-above, flipAt, length-flip, words-flip, bitAt-flip, bitAt-put, bitAt-xor, putAt, length-put, xorWords, length-xorWords, words-put, words-xor}
-use Rattle.bits.specs.Vec.{vec, length-vec, bitAt-vec, words-vec, vec-unique}
-use Rattle.bits.specs.Tail.{tailClear, tail-of-bits}
-use Rattle.bits.specs.Rows.{countBelow, rowsBelow, countOf, rowsOf, rows-ext, count-ext}
+use Rattle.bits.specs.Bit.{xorb, bit}
+use Rattle.bits.proofs.BitLaws.{bit-of-zero}
+use Rattle.bits.proofs.Cases.{lt-cases}
+use Rattle.bits.specs.Words.{bitAt, Words, putAt, xorWords}
+use Rattle.bits.proofs.WordLaws.{bitAt-put, bitAt-xor, length-put, length-xorWords, words-put, words-xor}
+use Rattle.bits.specs.Vec.{vec}
+use Rattle.bits.proofs.VecLaws.{length-vec, bitAt-vec, words-vec, vec-unique}
+use Rattle.bits.specs.Rows.{countBelow, rowsBelow, countOf, rowsOf}
+use Rattle.bits.proofs.RowLaws.{rows-ext, count-ext}
 
 module _ (f : ℕ → Bool) (n : ℕ) where
   pub rowsOf-vec : rowsOf (vec f n) ≡ rowsBelow f (n * 64)
@@ -25,12 +28,6 @@ module _ (f : ℕ → Bool) (n : ℕ) where
   unfolding countOf
   countOf-vec =
       ap (λ (k : ℕ). countBelow (bitAt (vec f n)) (k * 64)) (length-vec f n) ∙ count-ext (bitAt (vec f n)) f (n * 64) (bitAt-vec f n)
-
-  pub tail-vec : (m : ℕ) → ((r : ℕ) → m ≤ r → f r ≡ false) → tailClear (vec f n) m ≡ true
-  tail-vec m h =
-      tail-of-bits (vec f n) m
-      (λ r l. ⊎-elim (λ (i : r < n * 64). bitAt-vec f n r i ∙ h r l)
-      (λ (o : n * 64 ≤ r). bitAt-above (vec f n) r (subst (λ (k : ℕ). k * 64 ≤ r) (sym (length-vec f n)) o)) (lt-cases r (n * 64)))
 
 -- a vector with the rows of another turned over
 pub xor-vec : (a : List ℕ) (f : ℕ → Bool) → Words a → xorWords a (vec f (length a)) ≡ vec (λ r. xorb (bitAt a r) (f r)) (length a)
@@ -47,12 +44,6 @@ module _ (f : ℕ → Bool) (n r : ℕ) (h : r < n * 64) where
   put-vec on =
       vec-unique (λ q. cond (eqb r q) on (f q)) n (putAt (vec f n) r on) (length-put (vec f n) r on ∙ length-vec f n) (words-put (vec f n) r on (words-vec f n))
       (λ q l. bitAt-put on (vec f n) r inside q ∙ ap (cond (eqb r q) on) (bitAt-vec f n q l))
-
-  -- a row turned over is the function turned over at that row
-  pub flip-vec : flipAt (vec f n) r ≡ vec (λ q. xorb (eqb r q) (f q)) n
-  flip-vec =
-      vec-unique (λ q. xorb (eqb r q) (f q)) n (flipAt (vec f n) r) (length-flip (vec f n) r ∙ length-vec f n) (words-flip (vec f n) r (words-vec f n))
-      (λ q l. bitAt-flip (vec f n) r inside q ∙ ap (xorb (eqb r q)) (bitAt-vec f n q l))
 
 -- words of 0 have no row
 module _ (n : ℕ) where

@@ -1,0 +1,18 @@
+-- The laws of bits: what its definitions come to, and what the proofs of its functions lean on.
+-- Assumes nothing.
+
+pub mod Cases
+pub mod AllLaws
+pub mod OrLaws
+pub mod BitLaws
+pub mod TrailingLaws
+pub mod SetLaws
+pub mod TabLaws
+pub mod PartLaws
+pub mod WordLaws
+pub mod VecLaws
+pub mod TailLaws
+pub mod RowLaws
+pub mod VecOps
+pub mod VectorLaws
+pub mod ColumnLaws
