@@ -41,6 +41,8 @@ use Rattle.index.proofs.Answers.{begun-answer, begun-parts, relisted-an
 pub use Rattle.lent.proofs.Through.{outer, tail}
 pub use Rattle.lent.proofs.seat_of.Symbol.{name as seat-name, routine as seat-routine}
 pub use Rattle.lent.proofs.seat_of.Met.{met as seat-met}
+pub use Rattle.lent.proofs.open.Symbol.{name as open-name, routine as open-routine}
+pub use Rattle.lent.proofs.open.Met.{met as open-met}
 pub use Rattle.lent.proofs.put.Symbol.{name as put-name, routine as put-routine}
 pub use Rattle.lent.proofs.put.Met.{met as put-met}
 pub use Rattle.lent.proofs.free.Symbol.{name as free-name, routine as free-routine}

@@ -63,7 +63,8 @@ slot-kept n true i l = ap (words n true) (slot-again i l)
 slot-kept n false i l = ap (words n false) (slot-again i l)
 
 -- ---- a call that refuses, or comes to this
-unless-kept : (w : Option ℕ) (t : Tables) (bs : List (List ℕ)) (o : Outcome) → (w ≡ none → Kept (o .answer)) → Kept (unless w t bs o .answer)
+unless-kept : (w : Option ℕ) (t : Tables) (bs : List (List ℕ)) (o : Outcome) → (w ≡ none → Kept (o .answer))
+    → Kept (unless w t bs o .answer)
 unfolding unless
 unless-kept (some n) t bs o k = no-kept n
 unless-kept none t bs o k = k refl
@@ -109,7 +110,8 @@ unfolding abortOf
 abort-kept t n = unless-kept (refusalAt t (abort n)) t [] _ (λ e. count-kept _)
 
 -- ---- query: the slot that an accepted query names is one of the 96
-slot-low : (t : Tables) (n v threshold length s : ℕ) → refusalAt t (query n v threshold length) ≡ none → slotSeen (t .slots) (t .heads) s v < 96
+slot-low : (t : Tables) (n v threshold length s : ℕ) → refusalAt t (query n v threshold length) ≡ none
+    → slotSeen (t .slots) (t .heads) s v < 96
 unfolding tests
 slot-low t n v threshold length s e =
     let yes = accepted t (query n v threshold length) e in
