@@ -5,7 +5,7 @@
 --     LentAgain, lends-again, comes-back         a `&κ mut [R]` is lent as a `&κ′ mut [R]`, and comes back at the last value
 --     given-up         a `&κ mut [R]` is let go: its value is its last
 --     shares-out, shared-in, lends-out, lent-in      the two loans of a slice as steps, with the lifetime made and ended
---     open-slice, shut-slice       a slice is opened, and shut for good: what it holds then is its last value
+--     open-slice, shut-slice       a slice is opened, and shut at another list
 -- Assumes `Given`.
 use mathlib.Core.Path.{_≡_, refl, sym, ap, subst}
 use Prim.Native.Nat.{ℕ}
@@ -139,13 +139,16 @@ module _ {M : Type 1} {𝓤 : URA M} {H : Heap 𝓤} {A : Atoms 𝓤} {K : Type 
   lent-in t z {ν} {δ} zs room e = step (λ s. lft-end t z $
       use3 W (later (‵ (MutSlice ℓ κ R .own (slice-at b o γ zs) (sliceVal (b, o) (length ys) ∷ [])) ⊛ ‵ (flft κ q))) (comes-back R κ (ν ∷ []) q γ b o 𝓤 H A W ℓ ℓ′ ys δ zs room e) $ await t z $ split t $ s)
 
-  -- a slice is opened, and shut for good at zs: that is its last value
+  -- a slice is opened, and shut at zs
   pub open-slice : K → Soaks G
       → Step K W (‵ (row R fullShare ys b o) ∷ ‵ (fobor κ q (Held R (length ys) b o γ)) ∷ ‵ (fobs γ (codedHoleys R .code (heres R ys))) ∷ ‵ (fauth γ (codedHoleys R .code (heres R ys))) ∷ Γ) G
       (‵ (MutSlice ℓ κ R .own (slice-at b o γ ys) (sliceVal (b, o) (length ys) ∷ [])) ∷ ‵ (flft κ q) ∷ Γ) G
   open-slice t z = step (λ s. fsplit t $ drop t $ fsplit t $ opens-slice t z R ys b o $ s)
 
-  pub shut-slice : K → Soaks G → (zs : List (R .Denot)) → length zs ≡ length ys
-      → Step K W (‵ (finally R γ zs) ∷ ‵ (flft κ q) ∷ Γ) G
-      (‵ (row R fullShare zs b o) ∷ ‵ (fobor κ q (Held R (length ys) b o γ)) ∷ ‵ (fobs γ (codedHoleys R .code (heres R ys))) ∷ ‵ (fauth γ (codedHoleys R .code (heres R ys))) ∷ Γ) G
-  shut-slice t z zs e = step (λ s. closes-slice t z R ys zs e b o $ name-done t z $ use1 W (‵ (finally R γ zs)) (res-finally 𝓤 H A W ℓ κ R γ zs) $ move t (1 ∷ []) $ drop t $ s)
+  pub shut-slice : K → Soaks G → (zs : List (R .Denot)) → length zs ≡ length ys → Room R (length ys)
+      → Step K W (‵ (MutSlice ℓ κ R .own (slice-at b o γ zs) (sliceVal (b, o) (length zs) ∷ [])) ∷ ‵ (flft κ q) ∷ Γ) G
+      (‵ (row R fullShare zs b o) ∷ ‵ (fobor κ q (Held R (length ys) b o γ)) ∷ ‵ (fobs γ (codedHoleys R .code (heres R ys))) ∷ ‵
+      (fauth γ (codedHoleys R .code (heres R ys))) ∷ Γ) G
+  shut-slice t z zs e room = step (λ s. closes-slice t z R ys zs e b o $ fjoin t $
+      pureI t (at-slice R (slice-at b o γ zs) (sliceVal (b, o) (length zs) ∷ [])) (tt, (tt, tt)) (refl, subst (Room R) (sym e) room) $
+      fjoin t $ s)

@@ -10,4 +10,5 @@ pub mod Locals
 pub mod Slices
 pub mod Lent
 pub mod Passes
+pub mod Flat
 pub mod Through
