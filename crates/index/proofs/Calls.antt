@@ -32,7 +32,6 @@ pub use Rattle.calls.specs.Outcome.{Outcome, outcome}
 use Rattle.calls.specs.Calls.{createOf, beginOf, readOf, updateOf, deleteOf, insertOf, commitOf, tidyOf, abortOf}
 use Rattle.calls.specs.Query.{queryOf}
 use Rattle.calls.specs.declared.answers.Answer.{Answer}
-use Rattle.calls.specs.Seats as calls
 use Rattle.calls.specs.Seats.{Serves, Creates}
 pub use Rattle.calls.specs.Seats.{opening, relisting, freeing, untouched}
 pub use Rattle.index.proofs.Answers.{the-answer, the-begun, the-relisted, the-freed}

@@ -19,10 +19,11 @@ use base.Logic.{ent, sep, ex}
 use base.Fml.{Lft, GName, Share, Fml, fsep, fat, flft, fdead, fobs, fauth, fres, flent, fobor}
 use prog.Wp.{Heap}
 use ghost.Atoms.{Atoms, sem}
-use types.Kit.{Given, Item, Goal, Soaks, Seq, Step, step, ‵, _⊛_, some, later, _$_, _∵_, !, qed, by, move, keep, use1, use2, use3, drop, split, pick, rewrite, fsplit, fjoin, fpick, fpack, feqI, frame, await, updating, now as at-once, show, done}
+use types.Kit.{Given, Item, Goal, Soaks, Seq, Step, step, ‵, _⊛_, some, later, _$_, _∵_, !, qed, by, move, keep, use1, use2, use3, drop}
+use types.Kit.{split, pick, rewrite, fsplit, fjoin, fpick, fpack, feqI, frame, await, updating, now as at-once, show, done}
 use types.SemTy.{Body, cells, Arr}
 use types.Share.{arr-parts}
-use types.Tokens.{lft-new, lft-end, lent-back, name-done}
+use types.Tokens.{lft-new, lft-end, lent-back}
 use denote.RattleType.{RattleType}
 use denote.Shadow.{pureL, pureI}
 use denote.Laws.{Is, shows}

@@ -1,10 +1,13 @@
 -- `lent::advance` meets its contract: a walk of its MIR. The borrow is opened, the record is read whole and passed to `advanced`, the record that comes back is stored, and the borrow is closed at it.
 -- All that the proof knows of what it calls is that it meets its contract. Assumes nothing.
-use Rattle.lent.proofs.Kit.{refl, ℕ, _<_, List, [], _∷_, URA, fullShare, named, Val, vunit, vptr, SProp, ent, emp, id⊢, GName, Lft, Share, ftrue, flft, Memory, Routine, Heap, Calls, Loops, WpFn, Atoms, Fun, factI, givenOf, tables, tablesOf, Given, ‵, _⊛_, _$_, _∵_, !, qed, move, keep, drop, split, join, fsplit, fsplit3, fjoin, suffices, frame, done, look, look-raw, store-raw, init, forget, stop, hop, from, load, unit-lit, of-opd, and-then, no-more, assigns, returns, enter, alloc1, alloc0, params1, pass1, pass0, free1, free0, name-done, FmC, fmOf, owns, Is, shows, unit, RefT, MutRef, plain, opens, closes, peeks, spelt-out, onEntry, tripleOf, Contract, Triple, cited, says, needs, walkOf, ends-at}
-use Rattle.lent.proofs.Data.{nil}
-use Rattle.lent.proofs.Types.{clock, row}
-use Rattle.lent.proofs.Walks.{Par, value, lent-one, stays, proved}
-use Rattle.lent.proofs.Rules.{gets, bares, asks-plain}
+use Rattle.lent.proofs.Kit.{_≡_, refl, ℕ, _<_, List, [], _∷_, URA, fullShare, named, Val, vunit, vptr, SProp, ent, emp, GName, Lft}
+use Rattle.lent.proofs.Kit.{Share, ftrue, flft, Memory, Routine, Heap, Calls, Loops, WpFn, Atoms, Fun, factI, givenOf, tables}
+use Rattle.lent.proofs.Kit.{tablesOf, Given, ‵, _⊛_, _$_, _∵_, !, qed, move, keep, drop, split, join, fsplit, fsplit3, fjoin}
+use Rattle.lent.proofs.Kit.{suffices, frame, done, look, look-raw, store-raw, init, forget, stop, hop, from, load, unit-lit, of-opd}
+use Rattle.lent.proofs.Kit.{and-then, no-more, assigns, returns, enter, alloc1, alloc0, params1, pass1, pass0, free1, free0}
+use Rattle.lent.proofs.Kit.{name-done, FmC, fmOf, owns, Is, shows, unit, RefT, MutRef, plain, opens, closes, peeks, heard, nothing}
+use Rattle.lent.proofs.Kit.{spelt-out, onEntry, tripleOf, Contract, Triple, cited, says, needs, walkOf, ends-at, nil, clock, row}
+use Rattle.lent.proofs.Kit.{Par, value, lent-one, stays, proved, gets, bares, asks, arrives}
 use Rattle.tables.specs.Clock.{later as moved}
 use Rattle.tables.specs.declared.clock.Clock.{Clock}
 use Rattle.tables.specs.declared.counts.Row.{Row}
@@ -48,14 +51,18 @@ module _ {M : Type 1} (𝓤 : URA M) (H : Heap 𝓤) (A : Atoms 𝓤) (W : Given
         move ! (1 ∷ []) $ peeks ! (clock .row) (Is (clock .row)) (shows 𝓤 H A (clock .row)) h (clock .val h ∷ []) (λ is. drop ! $
         -- [the record's cell; the open borrow; obs; auth; true; the locals]
         assigns ! (of-opd ! (load ! (from ! (hop ! (look ! 11 refl) (stop !))) (look-raw ! 0 refl))) (from ! (stop !)) (init ! 5 refl (clock .lawful 𝓤 H A W .typed h _ is .0)) $
-        asks-plain ! fm (clock ∷ row ∷ []) clock (advanced.clauses 𝓤 H A mem run) known-advanced (h, (n, tt)) (is, (isn, tt)) tt (factI 𝓤 (h .stamp .0 < 4294967295) (emp 𝓤) ok) h′ (λ r ws. id⊢ 𝓤 _) (and-then ! (load ! (from ! (stop !)) (look ! 6 refl)) (and-then ! (load ! (from ! (stop !)) (look ! 10 refl)) (no-more !))) 7 refl refl refl (λ is′.
+        nothing ! $ gets ! row n isn $ fjoin ! $ gets ! clock h is $ fjoin ! $ nothing ! $
+        asks ! fm advanced.ended (advanced.clauses 𝓤 H A mem run) known-advanced tt tt tt (h, (n, tt))
+        (clock .val h ∷ [], (row .val n ∷ [], tt)) tt (factI 𝓤 (h .stamp .0 < 4294967295) (emp 𝓤) ok)
+        (and-then ! (load ! (from ! (stop !)) (look ! 6 refl)) (and-then ! (load ! (from ! (stop !)) (look ! 10 refl)) (no-more !)))
+        (λ v r ws. heard ! (r ≡ h′) (λ e. drop ! $ move ! (1 ∷ []) $ drop ! $ arrives ! clock h′ e 7 refl refl refl (λ is′.
         assigns ! (of-opd ! (load ! (from ! (stop !)) (look ! 7 refl))) (from ! (hop ! (look ! 11 refl) (stop !))) (store-raw ! 0 refl (clock .lawful 𝓤 H A W .typed h′ _ is′ .0)) $
         assigns ! (of-opd ! (unit-lit !)) (from ! (stop !)) (init ! 13 refl (tt, tt)) $ gets ! clock h′ is′ $ move ! (1 ∷ 0 ∷ 2 ∷ 3 ∷ 4 ∷ []) $
         closes ! tt (clock .row) h′ (clock .val h′ ∷ []) b o $ name-done ! tt $ returns ! (look ! 12 refl) $ forget ! 4 refl $ forget ! 6 refl $ forget ! 8 refl $ forget ! 10 refl $
         forget ! 12 refl $ move ! (12 ∷ 13 ∷ []) $ free1 ! $ move ! (10 ∷ 11 ∷ []) $ free1 ! $ move ! (8 ∷ 9 ∷ []) $ free1 ! $ move ! (6 ∷ 7 ∷ []) $ free1 ! $ move ! (4 ∷ 5 ∷ []) $ free1 ! $
         free0 ! $
         suffices ! _ (ends-at 𝓤 H A advance.ended (stays ps) (advance.clauses 𝓤 H A mem run) W y vunit tt (h′, (tt, tt)) (tt, (tt, tt))) $ says ! refl $ move ! (2 ∷ 3 ∷ []) $ join ! $ frame ! $
-        bares ! 1 $ move ! (1 ∷ 0 ∷ []) $ fjoin ! $ frame ! $ gets ! nil tt refl $ keep ! (0 ∷ []) $ done !))))))))
+        bares ! 1 $ move ! (1 ∷ 0 ∷ []) $ fjoin ! $ frame ! $ gets ! nil tt refl $ keep ! (0 ∷ []) $ done !))))))))))
 
 pub advance-spec : {M : Type 1} → stated.statement M
 unfolding code.routine tablesOf

@@ -1,11 +1,13 @@
 -- `lent::ticked` meets its contract: a walk of its MIR. The record is put into a local, which is lent to `advance` for a lifetime that is made for the call, comes back at the record that `advance` says, and is returned.
 -- All that the proof knows of what it calls is that it meets its contract. Assumes nothing.
-use Rattle.lent.proofs.Kit.{_≡_, refl, ℕ, _<_, List, [], _∷_, URA, fullShare, named, Val, vptr, SProp, ent, emp, GName, ftrue, fat, flent, fres, Memory, Routine, Heap, Calls, Loops, WpFn, Atoms, Fun, factI, givenOf, tables, tablesOf, Given, ‵, some, later, _⊛_, _$_, _∵_, !, qed, move, keep, use2, use3, split, join, pick, rewrite, fsplit, fjoin, suffices, frame, await, done, look, init, forget, stop, from, load, of-opd, addr, and-then, no-more, assigns, returns, enter, alloc1, alloc0, params1, pass1, pass0, free1, free0, Held-at, lft-new, lft-end, FmC, fmOf, owns, Is, shows, lies, RefT, MutRef, plain, peeks, heard, nothing, onEntry, tripleOf, Contract, Triple, cited, says, needs, walkOf, ends-at}
-use Rattle.lent.proofs.Data.{nil}
-use Rattle.lent.proofs.Types.{clock, row}
-use Rattle.lent.proofs.Walks.{Par, value, stays, proved}
-use Rattle.lent.proofs.Rules.{gets, bares, asks, arrives}
-use Rattle.lent.proofs.Lends.{local-out, local-back}
+use Rattle.lent.proofs.Kit.{_≡_, refl, ℕ, _<_, List, [], _∷_, URA, fullShare, named, Val, vptr, SProp, ent, emp, GName, ftrue, fat}
+use Rattle.lent.proofs.Kit.{flent, fres, Memory, Routine, Heap, Calls, Loops, WpFn, Atoms, Fun, factI, givenOf, tables, tablesOf}
+use Rattle.lent.proofs.Kit.{Given, ‵, some, later, _⊛_, _$_, _∵_, !, qed, move, keep, use2, use3, split, join, pick, rewrite, fsplit}
+use Rattle.lent.proofs.Kit.{fjoin, suffices, frame, await, done, look, init, forget, stop, from, load, of-opd, addr, and-then}
+use Rattle.lent.proofs.Kit.{no-more, assigns, returns, enter, alloc1, alloc0, params1, pass1, pass0, free1, free0, Held-at, lft-new}
+use Rattle.lent.proofs.Kit.{lft-end, FmC, fmOf, owns, Is, shows, lies, RefT, MutRef, plain, peeks, heard, nothing, onEntry, tripleOf}
+use Rattle.lent.proofs.Kit.{Contract, Triple, cited, says, needs, walkOf, ends-at, nil, clock, row, Par, value, stays, proved, gets}
+use Rattle.lent.proofs.Kit.{bares, asks, arrives, local-out, local-back}
 use Rattle.tables.specs.Clock.{later as moved}
 use Rattle.tables.specs.declared.clock.Clock.{Clock}
 use Rattle.tables.specs.declared.counts.Row.{Row}

@@ -1,19 +1,13 @@
 -- `lent::all_fit` meets its contract: a loop over the places, each turn of which asks `place` for the session and judges it. The invariant
 -- is that the answer so far is that of the places passed.
 -- Assumes nothing.
-use Rattle.lent.proofs.Kit.{_≡_, refl, sym, _∙_, ap, ℕ, _<_, _+_, _^_, arith, Bool, true, false, _&&_, List, [], _∷_, leb, lit<, length}
-use Rattle.lent.proofs.Kit.{fullShare, w32, w64, tyInt, tyBool, place, copy, seq, call, Val, vbool, vint, SProp, Body, fat, flft, Env, Tables}
-use Rattle.lent.proofs.Kit.{givenOf, tables, tablesOf, Given, Item, atRet, ‵, _$_, !, move, rewrite, fsplit, fjoin, whole, sub, look-in}
-use Rattle.lent.proofs.Kit.{look, init, forget, stop, fld, from, load, lit, of-opd, bin, and-then, no-more, assigns}
-use Rattle.lent.proofs.Data.{number, flag}
-use Rattle.lent.proofs.Types.{clock, session}
-use Rattle.lent.proofs.Rules.{after, arrives}
-use Rattle.lent.proofs.Locals.{Tree, leaf, both, env}
-use Rattle.lent.proofs.Slices.{Param, seen, given, own, Toks, Owned, longs-same, ty, cells, holds}
-use Rattle.lent.proofs.Lent.{Says, Callee, Ended-at, knows, runs-as}
-use Rattle.lent.proofs.Passes.{values}
-use Rattle.lent.proofs.Flat.{span, laid, roomy, opened, closed, asks-slice, sixteen}
-use mathlib.Core.Bool.{and-true, and-assoc}
+use Rattle.lent.proofs.Kit.{_≡_, refl, sym, _∙_, ap, ℕ, _<_, _+_, _^_, arith, Bool, false, _&&_, List, [], _∷_, leb, lit<, length}
+use Rattle.lent.proofs.Kit.{fullShare, w32, w64, tyInt, tyBool, place, copy, seq, call, Val, vbool, vint, SProp, Body, fat, flft}
+use Rattle.lent.proofs.Kit.{Env, Tables, givenOf, tables, tablesOf, Given, Item, atRet, ‵, _$_, !, move, rewrite, fsplit, fjoin}
+use Rattle.lent.proofs.Kit.{whole, sub, look-in, look, init, forget, stop, fld, from, load, lit, of-opd, bin, and-then, no-more}
+use Rattle.lent.proofs.Kit.{assigns, number, flag, clock, session, after, arrives, Tree, leaf, both, env, Param, seen, given, own}
+use Rattle.lent.proofs.Kit.{Toks, Owned, longs-same, ty, cells, holds, Says, Ended-at, runs-as, span, laid, roomy, opened, closed}
+use Rattle.lent.proofs.Kit.{asks-slice, sixteen, and-true, and-assoc}
 use Rattle.bits.specs.All.{allBelow, all-none, all-more}
 use Rattle.tables.specs.declared.session.Session.{Session}
 use Rattle.tables.specs.declared.clock.Clock.{Clock}
@@ -34,18 +28,6 @@ ps = seen session ∷ seen (number w32) ∷ given false clock ∷ []
 
 abbrev Ens : Says ps flag
 Ens y r z = r ≡ allFit (y .0) (y .1 .0) (y .1 .1 .0)
-
-abbrev Placed : Says (seen session ∷ values (number w64 ∷ [])) session
-Placed y r z = r ≡ seatAt (y .0) (y .1 .0)
-
-abbrev placed : Callee (seen session ∷ values (number w64 ∷ [])) session Placed
-placed = record { name = place-def.name; routine = place-def.routine; met = place-thm.met }
-
-abbrev Fits-too : Says (seen (number w32) ∷ values (clock ∷ session ∷ flag ∷ [])) flag
-Fits-too y r z = r ≡ y .1 .1 .1 .0 && sessionJudged (y .1 .1 .0) (y .0) (y .1 .0)
-
-abbrev fits-too : Callee (seen (number w32) ∷ values (clock ∷ session ∷ flag ∷ [])) flag Fits-too
-fits-too = record { name = fits-def.name; routine = fits-def.routine; met = fits-thm.met }
 
 -- the answer so far: of the places below i
 module _ (ts : List Session) (log : List ℕ) (c : Clock) where
@@ -98,12 +80,13 @@ all-fit-spec 𝓤 H 𝓜 𝓖 𝓡 =
     (λ n less _ p go.
     let fits : n < 2 ^ 64 = omega (arith, less) in
     -- [the number 0; the test 2; a slice's token and the slice 4, 6; owned; tokens; the result 10; the answer 12; the session 14; ..]
-    move ! (4 ∷ 5 ∷ []) $ asks-slice ! fm session (number w64 ∷ []) session Placed
-    (knows placed 𝓤 H 𝓜 𝓖 𝓡 code.env code.calls-lent·sessions·place) (κs .0) (qs .0) (s .0) us (n, tt) ((refl, fits), tt) (λ _. and-then ! (load ! (from ! (stop !))
+    move ! (4 ∷ 5 ∷ []) $ asks-slice 𝓜 𝓖 𝓡 code.env ! fm session (number w64 ∷ []) session (λ y r z. r ≡ seatAt (y .0) (y .1 .0))
+    (record { name = place-def.name; routine = place-def.routine; met = place-thm.met }) code.calls-lent·sessions·place (κs .0) (qs .0) (s .0) us (n, tt) ((refl, fits), tt) (λ _. and-then ! (load ! (from ! (stop !))
     (look ! 18 refl)) (and-then ! (load ! (from ! (stop !)) (look ! 2 refl)) (no-more !))) (λ v r z e.
     arrives ! session (sessionAt us n) (e ∙ seat-near us n less) 14 refl refl refl (λ is.
-    move ! (6 ∷ 7 ∷ []) $ asks-slice ! fm (number w32) (clock ∷ session ∷ flag ∷ []) flag Fits-too
-    (knows fits-too 𝓤 H 𝓜 𝓖 𝓡 code.env code.calls-lent·sessions·fits-too) (κs .1 .0) (qs .1 .0) (s .1 .0) ls (c, (sessionAt us n, (fit n, tt)))
+    move ! (6 ∷ 7 ∷ []) $ asks-slice 𝓜 𝓖 𝓡 code.env ! fm (number w32) (clock ∷ session ∷ flag ∷ []) flag
+    (λ y r z. r ≡ y .1 .1 .1 .0 && sessionJudged (y .1 .1 .0) (y .0) (y .1 .0))
+    (record { name = fits-def.name; routine = fits-def.routine; met = fits-thm.met }) code.calls-lent·sessions·fits-too (κs .1 .0) (qs .1 .0) (s .1 .0) ls (c, (sessionAt us n, (fit n, tt)))
     (k .1 .1 .0, (is, (refl, tt))) (λ _. and-then ! (load ! (from ! (stop !)) (look ! 20 refl)) (and-then ! (load ! (from ! (stop !))
     (look ! 22 refl)) (and-then ! (load ! (from ! (stop !)) (look ! 14 refl)) (and-then ! (load ! (from ! (stop !)) (look ! 12 refl))
     (no-more !))))) (λ v r z e. forget ! 13 refl $ arrives ! flag (fit (n + 1)) (e ∙ so-more us ls c n) 12 refl refl refl (λ _.

@@ -1,20 +1,14 @@
 -- `lent::free_all` meets its contract: a loop over the places, each turn of which lends the slice to `free`. The invariant is that what the
 -- places left make of the slice is what all of them make of the slice passed.
 -- Assumes nothing.
-use Rattle.lent.proofs.Kit.{_≡_, refl, sym, _∙_, ap, subst, ℕ, _<_, _+_, _^_, arith, Bool, true, false, List, [], _∷_, lit<, length}
-use Rattle.lent.proofs.Kit.{fullShare, named, erased, mut, w64, tyInt, tyBool, tyUnit, tyRef, place, copy, seq, call, Val, vint, SProp, Body}
-use Rattle.lent.proofs.Kit.{fat, flft, Env, Tables, givenOf, tables, tablesOf, Given, Item, atRet, ‵, _$_, !, move, drop, rewrite, fsplit}
-use Rattle.lent.proofs.Kit.{fjoin, look, init, forget, stop, from, load, lit, unit-lit, of-opd, and-then, no-more, assigns, sliceTy}
-use Rattle.lent.proofs.Kit.{sliceVal, MutSlice, Room}
-use Rattle.lent.proofs.Data.{number, flag, nil}
-use Rattle.lent.proofs.Types.{session}
-use Rattle.lent.proofs.Rules.{after, arrives, again}
-use Rattle.lent.proofs.Lends.{slice-at, lends-out, lent-in}
-use Rattle.lent.proofs.Locals.{Tree, bare, leaf, both, env}
-use Rattle.lent.proofs.Slices.{Param, unseen, kept, lent, given, own, Toks, Owned, ty, σ, cells, holds}
-use Rattle.lent.proofs.Lent.{Says, Callee, Ended-at, knows, calls-on, runs-as}
-use Rattle.lent.proofs.Passes.{passed, values, values-owned}
-use Rattle.lent.proofs.Flat.{span, laid, roomy, opened, closed, sixteen}
+use Rattle.lent.proofs.Kit.{_≡_, refl, sym, _∙_, ap, subst, ℕ, _<_, _+_, _^_, arith, Bool, false, List, [], _∷_, lit<, length}
+use Rattle.lent.proofs.Kit.{fullShare, named, erased, mut, w64, tyInt, tyBool, tyUnit, tyRef, place, copy, seq, call, Val, SProp}
+use Rattle.lent.proofs.Kit.{Body, fat, flft, Env, Tables, givenOf, tables, tablesOf, Given, Item, atRet, ‵, _$_, !, move, drop}
+use Rattle.lent.proofs.Kit.{rewrite, fsplit, fjoin, look, init, forget, stop, from, load, lit, unit-lit, of-opd, and-then, no-more}
+use Rattle.lent.proofs.Kit.{assigns, sliceTy, sliceVal, MutSlice, Room, number, flag, nil, session, after, arrives, again, slice-at}
+use Rattle.lent.proofs.Kit.{lends-out, lent-in, Tree, bare, leaf, both, env, Param, unseen, kept, lent, given, own, Toks, Owned, ty}
+use Rattle.lent.proofs.Kit.{σ, cells, holds, Says, Callee, Ended-at, knows, calls-on, runs-as, passed, values, values-owned, span}
+use Rattle.lent.proofs.Kit.{laid, roomy, opened, closed, sixteen}
 use Rattle.tables.specs.declared.session.Session.{Session}
 use Rattle.lent.specs.Places.{freedAt, allFreed, leftFreed, freed-next, left-none, left-all}
 use Rattle.lent.proofs.sessions.free.Symbol as free-def

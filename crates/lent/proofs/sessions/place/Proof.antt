@@ -1,20 +1,13 @@
 -- `lent::place` meets its contract: the answer is a free session, and where the place is one of the slice's, the borrow is looked into, the
 -- element is copied, and the borrow is shut.
 -- Assumes nothing.
-use Rattle.lent.proofs.Kit.{_≡_, refl, sym, ℕ, _<_, _*_, _^_, arith, true, false, _&&_, List, [], _∷_, ltb, ltb→lt, length, fullShare}
-use Rattle.lent.proofs.Kit.{w64, tyInt, tyBool, tyPtr, Val, vbool, vint, vptr, SProp, fat, Env, Calls, Loops, givenOf, tables, tablesOf}
-use Rattle.lent.proofs.Kit.{Given, atRet, ‵, _$_, !, move, rewrite, fsplit, fjoin, whole, sub, look-in, look, look-raw, store, init, forget, stop}
-use Rattle.lent.proofs.Kit.{hop, fld, from, load, lit, of-opd, bin, and-then, no-more, assigns, assigns-last, first, branches, skips, exec}
-use Rattle.lent.proofs.Kit.{Is, shows, place-is, elem-out, elem-back, looks-slice, shuts-slice}
-use Rattle.lent.proofs.Data.{number, flag}
-use Rattle.lent.proofs.Types.{session}
-use Rattle.lent.proofs.Rules.{after, arrives}
-use Rattle.lent.proofs.Locals.{Tree, leaf, both, env}
-use Rattle.lent.proofs.Slices.{Param, seen, given, longs-same, ty, cells, holds}
-use Rattle.lent.proofs.Lent.{Says, Callee, Ended-at, knows, runs-as}
-use Rattle.lent.proofs.Passes.{values}
-use Rattle.lent.proofs.Flat.{span, opened, closed, asks-values}
-use mir.Facts.{and-yes}
+use Rattle.lent.proofs.Kit.{_≡_, refl, sym, ℕ, _<_, _*_, _^_, arith, false, _&&_, List, [], _∷_, ltb, ltb→lt, length, fullShare, w64}
+use Rattle.lent.proofs.Kit.{tyInt, tyBool, tyPtr, Val, vbool, vint, vptr, SProp, fat, Env, Calls, Loops, givenOf, tables, tablesOf}
+use Rattle.lent.proofs.Kit.{Given, atRet, ‵, _$_, !, move, rewrite, fsplit, fjoin, whole, sub, look-in, look, look-raw, store, init}
+use Rattle.lent.proofs.Kit.{forget, stop, hop, fld, from, load, lit, of-opd, bin, and-then, no-more, assigns, assigns-last, first}
+use Rattle.lent.proofs.Kit.{branches, skips, exec, Is, shows, place-is, elem-out, elem-back, looks-slice, shuts-slice, number, flag}
+use Rattle.lent.proofs.Kit.{session, after, arrives, Tree, leaf, both, env, Param, seen, given, longs-same, ty, cells, holds, Says}
+use Rattle.lent.proofs.Kit.{Ended-at, runs-as, span, opened, closed, asks-values, and-yes}
 use Rattle.tables.specs.declared.session.Session.{Session}
 use Rattle.tables.specs.Sessions.{freed, sessionAt}
 use Rattle.lent.specs.Places.{seatAt, seat-there, seat-nowhere}
@@ -31,18 +24,6 @@ ps = seen session ∷ given false (number w64) ∷ []
 
 abbrev Ens : Says ps session
 Ens y r z = r ≡ seatAt (y .0) (y .1 .0)
-
-abbrev Free : Says (values []) session
-Free y r z = r ≡ freed
-
-abbrev free : Callee (values []) session Free
-free = record { name = free-def.name; routine = free-def.routine; met = free-thm.met }
-
-abbrev Within : Says (values (number w64 ∷ number w64 ∷ [])) flag
-Within y r z = r ≡ ltb (y .0) 16 && ltb (y .0) (y .1 .0)
-
-abbrev within : Callee (values (number w64 ∷ number w64 ∷ [])) flag Within
-within = record { name = within-def.name; routine = within-def.routine; met = within-thm.met }
 
 -- the answer, the place, whether it is one, and how many there are; and the element's offset, its pointer, and the element
 abbrev tests : Tree
@@ -66,12 +47,13 @@ place-spec 𝓤 H 𝓜 𝓖 𝓡 =
     opened ! (ty session) l (both tests points) ts (cells ps 0) bs (holds ps 0 s y) $
     -- [the result 0; the answer 2; the place 4; whether it is one 6; the count 8; offset 10; pointer 12; element 14; slice 16; n 18; tokens 20;
     -- owned]
-    asks-values ! fm [] session Free (knows free 𝓤 H 𝓜 𝓖 𝓡 code.env code.calls-tables·free-session) tt tt (λ _. no-more !) (λ v r z e. arrives ! session freed e 2 refl refl refl (λ isf.
+    asks-values 𝓜 𝓖 𝓡 code.env ! fm [] session (λ y r z. r ≡ freed) (record { name = free-def.name; routine = free-def.routine; met = free-thm.met })
+    code.calls-tables·free-session tt tt (λ _. no-more !) (λ v r z e. arrives ! session freed e 2 refl refl refl (λ isf.
     assigns ! (of-opd ! (load ! (from ! (stop !)) (look ! 18 refl))) (from ! (stop !)) (init ! 4 refl (tt, record { fits = k .1 .0 .1 })) $
     assigns ! (of-opd ! (load ! (from ! (fld ! refl (stop !))) (look-in ! 16 (sub ! 1 refl (whole !))))) (from ! (stop !))
     (init ! 8 refl (tt, record { fits = k .0 .0 })) $
-    asks-values ! fm (number w64 ∷ number w64 ∷ []) flag Within
-    (knows within 𝓤 H 𝓜 𝓖 𝓡 code.env code.calls-lent·sessions·within) (n, (length ys, tt)) (k .1 .0, ((refl, k .0 .0), tt)) (λ _. and-then ! (load ! (from ! (stop !)) (look ! 5 refl))
+    asks-values 𝓜 𝓖 𝓡 code.env ! fm (number w64 ∷ number w64 ∷ []) flag (λ y r z. r ≡ ltb (y .0) 16 && ltb (y .0) (y .1 .0))
+    (record { name = within-def.name; routine = within-def.routine; met = within-thm.met }) code.calls-lent·sessions·within (n, (length ys, tt)) (k .1 .0, ((refl, k .0 .0), tt)) (λ _. and-then ! (load ! (from ! (stop !)) (look ! 5 refl))
     (and-then ! (load ! (from ! (stop !)) (look ! 9 refl)) (no-more !))) (λ v r z e. arrives ! flag (ltb n 16 && ltb n (length ys)) e 6
     refl refl refl (λ _. first ! $ branches ! (load ! (from ! (stop !)) (look ! 6 refl))
     (λ here.

@@ -1,13 +1,8 @@
 -- `lent::places` meets its contract: the count is read from the slice reference.
 -- Assumes nothing.
-use Rattle.lent.proofs.Kit.{_≡_, refl, List, [], _∷_, length, w64, tyInt, givenOf, _$_, !, whole, sub, look-in, init, stop, fld, from}
-use Rattle.lent.proofs.Kit.{load, of-opd, assigns}
-use Rattle.lent.proofs.Data.{number}
-use Rattle.lent.proofs.Types.{session}
-use Rattle.lent.proofs.Locals.{bare}
-use Rattle.lent.proofs.Slices.{Param, seen, longs-same, cells, holds}
-use Rattle.lent.proofs.Lent.{Says, runs-as}
-use Rattle.lent.proofs.Flat.{opened, closed}
+use Rattle.lent.proofs.Kit.{_≡_, refl, List, [], _∷_, length, w64, tyInt, givenOf, _$_, !, whole, sub, look-in, init, stop, fld}
+use Rattle.lent.proofs.Kit.{from, load, of-opd, assigns, number, session, bare, Param, seen, longs-same, cells, holds, Says, runs-as}
+use Rattle.lent.proofs.Kit.{opened, closed}
 use Rattle.lent.proofs.sessions.places.Key.{name as #lent·places}
 use Rattle.lent.proofs.sessions.places.Statement as stated
 use Rattle.lent.proofs.sessions.places.Code as code

@@ -1,21 +1,14 @@
 -- `lent::put` meets its contract: `place_meant` says at which place. Where that is one of the slice's, the borrow is opened, the element is
 -- stored to, and the borrow is shut; else nothing is done.
 -- Assumes nothing.
-use Rattle.lent.proofs.Kit.{_≡_, refl, sym, _∙_, ℕ, _<_, _*_, _^_, arith, Bool, true, false, cond, _&&_, List, [], _∷_, Holds, ltb, ltb→lt, length}
-use Rattle.lent.proofs.Kit.{set, length-set, fullShare, w64, tyInt, tyBool, tyPtr, named, Val, vbool, vint, vptr, SProp, fat, Env, Calls}
-use Rattle.lent.proofs.Kit.{Loops, givenOf, tables, tablesOf, Given, atRet, ‵, _$_, !, move, drop, rewrite, fsplit, fjoin, whole, sub}
-use Rattle.lent.proofs.Kit.{look-in, look, store-raw, init, forget, stop, hop, fld, from, load, lit, unit-lit, of-opd, bin, and-then, no-more}
-use Rattle.lent.proofs.Kit.{assigns, assigns-last, first, branches, skips, exec, Is, shows, place-is, elem-out, elem-put}
-use Rattle.lent.proofs.Data.{number, flag, nil}
-use Rattle.lent.proofs.Types.{session}
-use Rattle.lent.proofs.Rules.{after, gets, arrives}
-use Rattle.lent.proofs.Lends.{open-slice, shut-slice}
-use Rattle.lent.proofs.Locals.{Tree, leaf, both, env}
-use Rattle.lent.proofs.Slices.{Param, kept, lent, given, longs-same, ty, cells, holds}
-use Rattle.lent.proofs.Lent.{Says, Callee, Ended-at, knows, runs-as}
-use Rattle.lent.proofs.Passes.{values}
-use Rattle.lent.proofs.Flat.{span, opened, closed, asks-values}
-use mir.Facts.{and-yes}
+use Rattle.lent.proofs.Kit.{_≡_, refl, sym, _∙_, ℕ, _<_, _*_, _^_, arith, Bool, true, false, cond, _&&_, List, [], _∷_, ltb, ltb→lt}
+use Rattle.lent.proofs.Kit.{length, set, length-set, fullShare, w64, tyInt, tyBool, tyPtr, named, Val, vbool, vint, vptr, SProp, fat}
+use Rattle.lent.proofs.Kit.{Env, Calls, Loops, givenOf, tables, tablesOf, Given, atRet, ‵, _$_, !, move, drop, rewrite, fsplit}
+use Rattle.lent.proofs.Kit.{fjoin, whole, sub, look-in, look, store-raw, init, forget, stop, hop, fld, from, load, lit, unit-lit}
+use Rattle.lent.proofs.Kit.{of-opd, bin, and-then, no-more, assigns, assigns-last, first, branches, skips, exec, Is, shows, place-is}
+use Rattle.lent.proofs.Kit.{elem-out, elem-put, number, flag, nil, session, after, gets, arrives, open-slice, shut-slice, Tree, leaf}
+use Rattle.lent.proofs.Kit.{both, env, Param, kept, lent, given, longs-same, ty, cells, holds, Says, Ended-at, runs-as, span, opened}
+use Rattle.lent.proofs.Kit.{closed, asks-values, and-yes}
 use Rattle.tables.specs.declared.session.Session.{Session}
 use Rattle.tables.specs.Sessions.{freed}
 use Rattle.lent.specs.Places.{listedBack, put-there, put-nowhere, put-meant}
@@ -32,18 +25,6 @@ ps = lent kept session ∷ given true (number w64) ∷ given true flag ∷ given
 
 abbrev Ens : Says ps nil
 Ens y r z = z .0 ≡ listedBack (y .0) (y .1 .0) (y .1 .1 .0) (y .1 .1 .1 .0)
-
-abbrev Meant : Says (values (number w64 ∷ flag ∷ [])) (number w64)
-Meant y r z = r ≡ cond (y .1 .0) (y .0) 16
-
-abbrev meant : Callee (values (number w64 ∷ flag ∷ [])) (number w64) Meant
-meant = record { name = meant-def.name; routine = meant-def.routine; met = meant-thm.met }
-
-abbrev Within : Says (values (number w64 ∷ number w64 ∷ [])) flag
-Within y r z = r ≡ ltb (y .0) 16 && ltb (y .0) (y .1 .0)
-
-abbrev within : Callee (values (number w64 ∷ number w64 ∷ [])) flag Within
-within = record { name = within-def.name; routine = within-def.routine; met = within-thm.met }
 
 -- the place, whether it is one, and how many there are; and the element's offset and its pointer
 abbrev tests : Tree
@@ -66,13 +47,13 @@ put-spec 𝓤 H 𝓜 𝓖 𝓡 = runs-as 𝓤 H 𝓜 𝓖 𝓡 ps nil Ens (both 
     let i : ℕ = cond (y .1 .1 .0) (y .1 .0) 16 in
     opened ! (ty nil) l (both tests points) ts (cells ps 0) bs (holds ps 0 s y) $
     -- [the result 0; the place 2; whether it is one 4; the count 6; offset 8; pointer 10; slice 12; n 14; yes 16; session 18; tokens 20; owned]
-    asks-values ! fm (number w64 ∷ flag ∷ []) (number w64) Meant
-    (knows meant 𝓤 H 𝓜 𝓖 𝓡 code.env code.calls-lent·sessions·place-meant) (n, (yes, tt)) (k .1 .0, (k .1 .1 .0, tt)) (λ _. and-then ! (load ! (from ! (stop !)) (look ! 15 refl))
+    asks-values 𝓜 𝓖 𝓡 code.env ! fm (number w64 ∷ flag ∷ []) (number w64) (λ y r z. r ≡ cond (y .1 .0) (y .0) 16)
+    (record { name = meant-def.name; routine = meant-def.routine; met = meant-thm.met }) code.calls-lent·sessions·place-meant (n, (yes, tt)) (k .1 .0, (k .1 .1 .0, tt)) (λ _. and-then ! (load ! (from ! (stop !)) (look ! 15 refl))
     (and-then ! (load ! (from ! (stop !)) (look ! 17 refl)) (no-more !))) (λ v r z e. arrives ! (number w64) i e 2 refl refl refl (λ is.
     assigns ! (of-opd ! (load ! (from ! (fld ! refl (stop !))) (look-in ! 12 (sub ! 1 refl (whole !))))) (from ! (stop !))
     (init ! 6 refl (tt, record { fits = k .0 .0 })) $
-    asks-values ! fm (number w64 ∷ number w64 ∷ []) flag Within
-    (knows within 𝓤 H 𝓜 𝓖 𝓡 code.env code.calls-lent·sessions·within) (i, (length ys, tt)) (is, ((refl, k .0 .0), tt)) (λ _. and-then ! (load ! (from ! (stop !)) (look ! 3 refl))
+    asks-values 𝓜 𝓖 𝓡 code.env ! fm (number w64 ∷ number w64 ∷ []) flag (λ y r z. r ≡ ltb (y .0) 16 && ltb (y .0) (y .1 .0))
+    (record { name = within-def.name; routine = within-def.routine; met = within-thm.met }) code.calls-lent·sessions·within (i, (length ys, tt)) (is, ((refl, k .0 .0), tt)) (λ _. and-then ! (load ! (from ! (stop !)) (look ! 3 refl))
     (and-then ! (load ! (from ! (stop !)) (look ! 7 refl)) (no-more !))) (λ v r z e. arrives ! flag (ltb i 16 && ltb i (length ys)) e 4
     refl refl refl (λ _. first ! $ branches ! (load ! (from ! (stop !)) (look ! 4 refl))
     (λ here.
