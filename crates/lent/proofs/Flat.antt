@@ -2,7 +2,8 @@
 --     laid, roomy      the locals of a tree that hold values, and those of one that have room, one by one in front of other entries
 --     span             some numbers in a row, as positions
 --     opened, closed   from a function's entry they are laid out; and at its end, laid out, they are freed
---     twice            a `&` slice is had twice.        asks-values, asks-slice      a call that passes plain data alone, or a `&` slice in front of it
+--     twice            a `&` slice is had twice.        asks-values, asks-slice      a call that passes plain data alone, or a `&` slice in
+--                      front of it
 --     sixteen          a loop over the numbers below 16
 -- Assumes `Given`, and `FmC` of the table of calls where there is a call.
 use mathlib.Core.Path.{_≡_, refl}
@@ -166,7 +167,8 @@ module _ {M : Type 1} {𝓤 : URA M} {H : Heap 𝓤} {A : Atoms 𝓤} (W : Given
   next = assign (place i []) (op2 (add unsigned) (copy (place i [])) (int w64 1))
 
   abbrev turn : Body
-  turn = seq (assign (place j []) (op2 (lt unsigned) (copy (place i [])) (int w64 16))) (seq (cond (copy (place j [])) skip (exit 1)) (code next))
+  turn = seq (assign (place j []) (op2 (lt unsigned) (copy (place i [])) (int w64 16))) (seq (cond (copy (place j [])) skip (exit 1))
+      (code next))
 
   -- the number n, and the test as it came out there
   abbrev pub Counted : (n : ℕ) → List (Item 𝓤) → List (Item 𝓤)
@@ -192,12 +194,14 @@ module _ {M : Type 1} {𝓤 : URA M} {H : Heap 𝓤} {A : Atoms 𝓤} (W : Given
     turns : (t : State) → Sq W (At t) (runs (𝓣 .C) (𝓣 .Λ) E turn (anyQ (Turned t)))
     unfolding afterTurn
     turns t =
-        assigns ! (bin ! (load ! (from-at ! at-i (stop !)) (look ! 0 refl)) (lit ! tt) tt) (from-at ! at-j (stop !)) (init ! 2 refl (tt, tt)) $
+        assigns ! (bin ! (load ! (from-at ! at-i (stop !)) (look ! 0 refl)) (lit ! tt) tt) (from-at ! at-j (stop !))
+        (init ! 2 refl (tt, tt)) $
         first ! $ branches ! (load ! (from-at ! at-j (stop !)) (look ! 2 refl))
         (λ less. let l : t .0 < 16 = ltb→lt (t .0) 16 less in
         let fits : t .0 + 1 < 2 ^ 64 = omega (arith, l) in
         skips ! $ exec ! (𝓣 .C) (𝓣 .Λ) E (code next) (anyQ (Turned t)) $ goes (t .0) l (t .2) (anyQ (Turned t)) (λ x′.
-        assigns-last ! (bin ! (load ! (from-at ! at-i (stop !)) (look ! 0 refl)) (lit ! tt) (record { fits = fits })) (from-at ! at-i (stop !))
+        assigns-last ! (bin ! (load ! (from-at ! at-i (stop !)) (look ! 0 refl)) (lit ! tt) (record { fits = fits }))
+        (from-at ! at-i (stop !))
         (store ! 0 refl (tt, record { fits = fits })) $ forget ! 2 refl $
         turn-again ! (Nearer left) At t (t .0 + 1, omega (arith, l), x′) (omega (arith, l))))
         (λ over. jumps ! $ exec ! (𝓣 .C) (𝓣 .Λ) E rest q $ ends (t .0) (omega (arith, t .1, nltb→le (t .0) 16 over)) (t .2))

@@ -1,7 +1,8 @@
 -- `lent::seat_of` meets its contract: the clock is read, every place is judged, the places are counted, and the one session is copied: four
 -- calls, to each of which the slices are passed on as they were passed.
 -- Assumes nothing.
-use Rattle.lent.proofs.Kit.{_≡_, refl, ℕ, false, List, [], _∷_, length, w32, w64, tyInt, tyBool, vbool, vint, givenOf, Given, _$_, !}
+use Rattle.lent.proofs.Kit.{_≡_, refl, ℕ, false, List, [], _∷_, length, w32, w64, tyInt, tyBool, vbool, vint, givenOf, Given, _$_}
+use Rattle.lent.proofs.Kit.{ ! }
 use Rattle.lent.proofs.Kit.{move, drop, fsplit, fjoin, Is, agg, look, init, stop, from, load, and-then, no-more, assigns, tablesOf}
 use Rattle.lent.proofs.Kit.{number, flag, clock, session, seat, arrives, Tree, bare, leaf, both, Param, seen, given, longs-same, ty}
 use Rattle.lent.proofs.Kit.{cells, holds, Says, Callee, knows, calls-on, runs-as, values, values-owned, span, opened, closed, twice}
@@ -58,8 +59,10 @@ seat-of-spec 𝓤 H 𝓜 𝓖 𝓡 =
     move ! (18 ∷ []) $ fsplit ! $ move ! (1 ∷ []) $ fsplit ! $ move ! (1 ∷ []) $ fsplit ! $
     move ! (22 ∷ []) $ fsplit ! $ move ! (1 ∷ []) $ fsplit ! $ move ! (1 ∷ []) $ fsplit ! $ move ! (7 ∷ 3 ∷ []) $
     asks-slice 𝓜 𝓖 𝓡 code.env ! fm (number w32) [] clock (λ y r z. r ≡ lentClock (y .0))
-    (record { name = clock-def.name; routine = clock-def.routine; met = clock-thm.met }) code.calls-tables·clock-lent (κs .0) (qs .0) (s .0) (y .0)
-    tt tt (λ _. and-then ! (load ! (from ! (stop !)) (look ! 18 refl)) (no-more !)) (λ v a z e. arrives ! clock c e 10 refl refl refl (λ isc.
+    (record { name = clock-def.name; routine = clock-def.routine; met = clock-thm.met }) code.calls-tables·clock-lent (κs .0) (qs .0) (s .0)
+    (y .0)
+    tt tt (λ _. and-then ! (load ! (from ! (stop !)) (look ! 18 refl)) (no-more !)) (λ v a z e. arrives ! clock c e 10 refl refl refl
+    (λ isc.
     -- [the clock's token and slice; sessions; the rest; log; the sessions' token; the rest; the log's; the result 8; ..]
     move ! (2 ∷ []) $ twice ! session (κs .1 .1 .0) (s .1 .1 .0) us $ move ! (5 ∷ []) $ twice ! (number w32) (κs .1 .0) (s .1 .0) ls $
     values-owned ! (clock ∷ []) (c, tt) (isc, tt) $ move ! (2 ∷ 1 ∷ []) $ fjoin ! $ move ! (3 ∷ 0 ∷ []) $ fjoin ! $
@@ -67,13 +70,18 @@ seat-of-spec 𝓤 H 𝓜 𝓖 𝓡 =
     calls-on ! fm (seen session ∷ seen (number w32) ∷ values (clock ∷ [])) flag Fits
     (knows fits 𝓤 H 𝓜 𝓖 𝓡 code.env code.calls-lent·sessions·all-fit) (κs .1 .1 .0, (κs .1 .0, (tt, tt))) (qs .1 .1 .0, (qs .1 .0, (tt, tt)))
     (s .1 .1 .0, (s .1 .0, (tt, tt))) (us, (ls, (c, tt))) (λ _. and-then ! (load ! (from ! (stop !)) (look ! 21 refl))
-    (and-then ! (load ! (from ! (stop !)) (look ! 19 refl)) (and-then ! (load ! (from ! (stop !)) (look ! 9 refl)) (no-more !)))) (λ v a z e _.
-    move ! (1 ∷ 2 ∷ []) $ fsplit ! $ move ! (1 ∷ []) $ fsplit ! $ move ! (4 ∷ []) $ arrives ! flag (allFit us ls c) e 14 refl refl refl (λ isf.
+    (and-then ! (load ! (from ! (stop !)) (look ! 19 refl)) (and-then ! (load ! (from ! (stop !)) (look ! 9 refl)) (no-more !))))
+    (λ v a z e _.
+    move ! (1 ∷ 2 ∷ []) $ fsplit ! $ move ! (1 ∷ []) $ fsplit ! $ move ! (4 ∷ []) $
+    arrives ! flag (allFit us ls c) e 14 refl refl refl (λ isf.
     move ! (2 ∷ 5 ∷ []) $ asks-slice 𝓜 𝓖 𝓡 code.env ! fm session [] (number w64) (λ y r z. r ≡ length (y .0))
-    (record { name = places-def.name; routine = places-def.routine; met = places-thm.met }) code.calls-lent·sessions·places (κs .1 .1 .0) (qs .1 .1 .0) (s .1 .1 .0) us tt tt
-    (λ _. and-then ! (load ! (from ! (stop !)) (look ! 24 refl)) (no-more !)) (λ v a z e. arrives ! (number w64) (length us) e 16 refl refl refl
+    (record { name = places-def.name; routine = places-def.routine; met = places-thm.met }) code.calls-lent·sessions·places (κs .1 .1 .0)
+    (qs .1 .1 .0) (s .1 .1 .0) us tt tt
+    (λ _. and-then ! (load ! (from ! (stop !)) (look ! 24 refl)) (no-more !)) (λ v a z e. arrives ! (number w64)
+    (length us) e 16 refl refl refl
     (λ ism. asks-slice 𝓜 𝓖 𝓡 code.env ! fm session (number w64 ∷ []) session (λ y r z. r ≡ seatAt (y .0) (y .1 .0))
-    (record { name = place-def.name; routine = place-def.routine; met = place-thm.met }) code.calls-lent·sessions·place (κs .1 .1 .0) (qs .1 .1 .0) (s .1 .1 .0) us (n, tt) (k .1 .1 .1 .0, tt)
+    (record { name = place-def.name; routine = place-def.routine; met = place-thm.met }) code.calls-lent·sessions·place (κs .1 .1 .0)
+    (qs .1 .1 .0) (s .1 .1 .0) us (n, tt) (k .1 .1 .1 .0, tt)
     (λ _. and-then ! (load ! (from ! (stop !)) (look ! 24 refl)) (and-then ! (load ! (from ! (stop !)) (look ! 26 refl)) (no-more !)))
     (λ v a z e. arrives ! session (seatAt us n) e 18 refl refl refl (λ iss.
     let is : Is (seat .row) r (seat .val r ∷ []) = SL.owes P.the-type PL.the-laws r (ism, (isf, (iss, tt))) in

@@ -35,7 +35,8 @@ module _ (ts : List Session) (log : List ℕ) (c : Clock) where
   soFar i = leb 16 (length ts) && allBelow (λ j. sessionJudged (sessionAt ts j) log c) i
 
   so-none : leb 16 (length ts) ≡ soFar 0
-  so-none = sym (ap (λ (z : Bool). leb 16 (length ts) && z) (all-none (λ j. sessionJudged (sessionAt ts j) log c)) ∙ and-true (leb 16 (length ts)))
+  so-none = sym (ap (λ (z : Bool). leb 16 (length ts) && z) (all-none (λ j. sessionJudged (sessionAt ts j) log c))
+      ∙ and-true (leb 16 (length ts)))
 
   so-more : (i : ℕ) → soFar i && sessionJudged (sessionAt ts i) log c ≡ soFar (i + 1)
   so-more i = and-assoc (leb 16 (length ts)) (allBelow (λ j. sessionJudged (sessionAt ts j) log c) i) (sessionJudged (sessionAt ts i) log c)
@@ -81,12 +82,14 @@ all-fit-spec 𝓤 H 𝓜 𝓖 𝓡 =
     let fits : n < 2 ^ 64 = omega (arith, less) in
     -- [the number 0; the test 2; a slice's token and the slice 4, 6; owned; tokens; the result 10; the answer 12; the session 14; ..]
     move ! (4 ∷ 5 ∷ []) $ asks-slice 𝓜 𝓖 𝓡 code.env ! fm session (number w64 ∷ []) session (λ y r z. r ≡ seatAt (y .0) (y .1 .0))
-    (record { name = place-def.name; routine = place-def.routine; met = place-thm.met }) code.calls-lent·sessions·place (κs .0) (qs .0) (s .0) us (n, tt) ((refl, fits), tt) (λ _. and-then ! (load ! (from ! (stop !))
+    (record { name = place-def.name; routine = place-def.routine; met = place-thm.met }) code.calls-lent·sessions·place (κs .0) (qs .0)
+    (s .0) us (n, tt) ((refl, fits), tt) (λ _. and-then ! (load ! (from ! (stop !))
     (look ! 18 refl)) (and-then ! (load ! (from ! (stop !)) (look ! 2 refl)) (no-more !))) (λ v r z e.
     arrives ! session (sessionAt us n) (e ∙ seat-near us n less) 14 refl refl refl (λ is.
     move ! (6 ∷ 7 ∷ []) $ asks-slice 𝓜 𝓖 𝓡 code.env ! fm (number w32) (clock ∷ session ∷ flag ∷ []) flag
     (λ y r z. r ≡ y .1 .1 .1 .0 && sessionJudged (y .1 .1 .0) (y .0) (y .1 .0))
-    (record { name = fits-def.name; routine = fits-def.routine; met = fits-thm.met }) code.calls-lent·sessions·fits-too (κs .1 .0) (qs .1 .0) (s .1 .0) ls (c, (sessionAt us n, (fit n, tt)))
+    (record { name = fits-def.name; routine = fits-def.routine; met = fits-thm.met }) code.calls-lent·sessions·fits-too (κs .1 .0)
+    (qs .1 .0) (s .1 .0) ls (c, (sessionAt us n, (fit n, tt)))
     (k .1 .1 .0, (is, (refl, tt))) (λ _. and-then ! (load ! (from ! (stop !)) (look ! 20 refl)) (and-then ! (load ! (from ! (stop !))
     (look ! 22 refl)) (and-then ! (load ! (from ! (stop !)) (look ! 14 refl)) (and-then ! (load ! (from ! (stop !)) (look ! 12 refl))
     (no-more !))))) (λ v r z e. forget ! 13 refl $ arrives ! flag (fit (n + 1)) (e ∙ so-more us ls c n) 12 refl refl refl (λ _.

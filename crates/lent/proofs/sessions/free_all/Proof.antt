@@ -37,7 +37,8 @@ abbrev temps : Tree
 temps = both (leaf (tyInt w64)) (both (leaf tyBool) lends)
 
 abbrev turn : Body → Body
-turn rest = passed 1 6 7 (ty session) (seq (call free-def.name (copy (place 7 []) ∷ copy (place 3 []) ∷ copy (place 2 []) ∷ []) (place 5 [])) rest)
+turn rest = passed 1 6 7 (ty session) (seq (call free-def.name (copy (place 7 []) ∷ copy (place 3 []) ∷ copy (place 2 []) ∷ [])
+    (place 5 [])) rest)
 
 pub free-all-spec : {M : Type 1} → stated.statement M
 unfolding code.routine tablesOf
@@ -50,7 +51,8 @@ free-all-spec 𝓤 H 𝓜 𝓖 𝓡 =
     let Post : Val → SProp 𝓤 = Ended-at ps nil Ens 𝓤 H (𝓖 .A) κs qs s y in
     let ys : List Session = y .0 in let yes : Bool = y .1 .0 in let b : ℕ = s .0 .0 in let o : ℕ = s .0 .1 in
     -- the list, as long as that passed, of which the places left make the same
-    let X : ℕ → Type 0 = λ n. (zs : List Session) × (length zs ≡ length (y .0)) × (leftFreed zs n (y .1 .0) ≡ leftFreed (y .0) 0 (y .1 .0)) in
+    let X : ℕ → Type 0 = λ n. (zs : List Session) × (length zs ≡ length (y .0)) × (leftFreed zs n (y .1 .0) ≡ leftFreed (y .0) 0
+    (y .1 .0)) in
     let J : (n : ℕ) → X n → List (Item 𝓤) = λ n x. ‵ (flft (κs .0) (qs .0)) ∷ ‵ (own (lent kept session) (κs .0) (s .0) (x .0)) ∷ ‵
     (Owned (given false flag ∷ []) (tt, tt) (tt, tt) (yes, tt)) ∷ ‵ (Toks (given false flag ∷ []) (tt, tt) (tt, tt)) ∷
     roomy (both (leaf tyUnit) lends) (l, ts .1 .1) (laid (cells ps 0) bs (holds ps 0 s (x .0, y .1)) []) in
@@ -69,7 +71,8 @@ free-all-spec 𝓤 H 𝓜 𝓖 𝓡 =
     values-owned ! (number w64 ∷ flag ∷ []) (n, (yes, tt)) ((refl, fits), (refl, tt)) $
     move ! (2 ∷ 0 ∷ []) $ fjoin ! $ move ! (2 ∷ 1 ∷ []) $ fjoin ! $ move ! (1 ∷ 0 ∷ []) $
     calls-on ! fm (lent unseen session ∷ values (number w64 ∷ flag ∷ [])) nil Frees
-    (knows frees 𝓤 H 𝓜 𝓖 𝓡 code.env code.calls-lent·sessions·free) (ν ∷ [], (tt, (tt, tt))) (fullShare, (tt, (tt, tt))) ((b, o, δ), (tt, (tt, tt))) (zs, (n, (yes, tt)))
+    (knows frees 𝓤 H 𝓜 𝓖 𝓡 code.env code.calls-lent·sessions·free) (ν ∷ [], (tt, (tt, tt))) (fullShare, (tt, (tt, tt)))
+    ((b, o, δ), (tt, (tt, tt))) (zs, (n, (yes, tt)))
     (λ _. and-then ! (load ! (from ! (stop !)) (look ! 14 refl)) (and-then ! (load ! (from ! (stop !)) (look ! 2 refl))
     (and-then ! (load ! (from ! (stop !)) (look ! 18 refl)) (no-more !)))) (λ v r w h long.
     move ! (1 ∷ []) $ fsplit ! $ move ! (1 ∷ []) $ drop ! $ move ! (2 ∷ []) $ fsplit ! $ move ! (1 ∷ []) $ drop ! $ move ! (2 ∷ []) $
@@ -77,7 +80,8 @@ free-all-spec 𝓤 H 𝓜 𝓖 𝓡 =
     lent-in (session .row) (named 0) (named 0) (κs .0) (qs .0) (s .0 .2) b o zs ! tt (w .0) room (long .0) $
     rewrite ! 0 (λ (m : ℕ). ‵ (MutSlice (named 0) (κs .0) (session .row) .own (slice-at b o (s .0 .2) (w .0)) (sliceVal (b, o) m ∷ [])))
     (sym (long .0)) refl $
-    rewrite ! 16 (λ (m : ℕ). ‵ (fat fullShare (sliceTy (tyRef (named 0) mut (σ session))) (bs .0) 0 (sliceVal (b, o) m))) (sym (long .0)) refl $
+    rewrite ! 16 (λ (m : ℕ). ‵ (fat fullShare (sliceTy (tyRef (named 0) mut (σ session))) (bs .0) 0 (sliceVal (b, o) m)))
+    (sym (long .0)) refl $
     move ! (2 ∷ 3 ∷ 4 ∷ 5 ∷ 1 ∷ 0 ∷ []) $
     go (w .0, long .0 ∙ x .1, ap (λ (us : List Session). leftFreed us (n + 1) yes) h ∙ freed-next zs n yes less ∙ x .2)))))
     (λ n e x.

@@ -45,15 +45,18 @@ place-spec 𝓤 H 𝓜 𝓖 𝓡 =
     let b : ℕ = s .0 .0 in let o : ℕ = s .0 .1 in
     let ys : List Session = y .0 in let n : ℕ = y .1 .0 in let x : Session = sessionAt (y .0) (y .1 .0) in
     opened ! (ty session) l (both tests points) ts (cells ps 0) bs (holds ps 0 s y) $
-    -- [the result 0; the answer 2; the place 4; whether it is one 6; the count 8; offset 10; pointer 12; element 14; slice 16; n 18; tokens 20;
+    -- [the result 0; the answer 2; the place 4; whether it is one 6; the count 8; offset 10; pointer 12; element 14; slice 16; n 18; tokens
+    -- 20;
     -- owned]
-    asks-values 𝓜 𝓖 𝓡 code.env ! fm [] session (λ y r z. r ≡ freed) (record { name = free-def.name; routine = free-def.routine; met = free-thm.met })
+    asks-values 𝓜 𝓖 𝓡 code.env ! fm [] session (λ y r z. r ≡ freed)
+    (record { name = free-def.name; routine = free-def.routine; met = free-thm.met })
     code.calls-tables·free-session tt tt (λ _. no-more !) (λ v r z e. arrives ! session freed e 2 refl refl refl (λ isf.
     assigns ! (of-opd ! (load ! (from ! (stop !)) (look ! 18 refl))) (from ! (stop !)) (init ! 4 refl (tt, record { fits = k .1 .0 .1 })) $
     assigns ! (of-opd ! (load ! (from ! (fld ! refl (stop !))) (look-in ! 16 (sub ! 1 refl (whole !))))) (from ! (stop !))
     (init ! 8 refl (tt, record { fits = k .0 .0 })) $
     asks-values 𝓜 𝓖 𝓡 code.env ! fm (number w64 ∷ number w64 ∷ []) flag (λ y r z. r ≡ ltb (y .0) 16 && ltb (y .0) (y .1 .0))
-    (record { name = within-def.name; routine = within-def.routine; met = within-thm.met }) code.calls-lent·sessions·within (n, (length ys, tt)) (k .1 .0, ((refl, k .0 .0), tt)) (λ _. and-then ! (load ! (from ! (stop !)) (look ! 5 refl))
+    (record { name = within-def.name; routine = within-def.routine; met = within-thm.met }) code.calls-lent·sessions·within
+    (n, (length ys, tt)) (k .1 .0, ((refl, k .0 .0), tt)) (λ _. and-then ! (load ! (from ! (stop !)) (look ! 5 refl))
     (and-then ! (load ! (from ! (stop !)) (look ! 9 refl)) (no-more !))) (λ v r z e. arrives ! flag (ltb n 16 && ltb n (length ys)) e 6
     refl refl refl (λ _. first ! $ branches ! (load ! (from ! (stop !)) (look ! 6 refl))
     (λ here.
@@ -61,13 +64,15 @@ place-spec 𝓤 H 𝓜 𝓖 𝓡 =
     let far : n * 112 < 2 ^ 64 = omega (arith, k .0 .1, inside) in
     assigns ! (bin ! (load ! (from ! (stop !)) (look ! 4 refl)) (lit ! tt) (record { fits = far })) (from ! (stop !))
     (init ! 10 refl (tt, record { fits = far })) $
-    assigns ! (bin ! (load ! (from ! (fld ! refl (stop !))) (look-in ! 16 (sub ! 0 refl (whole !)))) (load ! (from ! (stop !)) (look ! 10 refl))
+    assigns ! (bin ! (load ! (from ! (fld ! refl (stop !))) (look-in ! 16 (sub ! 0 refl (whole !)))) (load ! (from ! (stop !))
+    (look ! 10 refl))
     tt) (from ! (stop !)) (init ! 12 refl (tt, tt)) $
     rewrite ! 12 (λ (p : ℕ). ‵ (fat fullShare tyPtr (ts .1 .1 .0) 0 (vptr b p))) (sym (place-is 112 o n)) refl $
     move ! (20 ∷ []) $ fsplit ! $ move ! (22 ∷ []) $ fsplit ! $ fsplit ! $ move ! (1 ∷ []) $ fsplit ! $ move ! (1 ∷ 4 ∷ []) $
     looks-slice ! tt (session .row) (Is (session .row)) (shows 𝓤 H (𝓖 .A) (session .row)) (λ d. session .val d ∷ []) (session .tells)
     (session .copied 𝓤 H (𝓖 .A) W) ys b o (λ q′.
-    elem-out ! (session .row) (Is (session .row)) (shows 𝓤 H (𝓖 .A) (session .row)) (λ d. session .val d ∷ []) (session .tells) q′ ys n freed b o
+    elem-out ! (session .row) (Is (session .row)) (shows 𝓤 H (𝓖 .A) (session .row)) (λ d. session .val d ∷ [])
+    (session .tells) q′ ys n freed b o
     inside (λ is. assigns ! (of-opd ! (load ! (from ! (hop ! (look ! 21 refl) (stop !))) (look-raw ! 0 refl))) (from ! (stop !))
     (init ! 23 refl (session .lawful 𝓤 H (𝓖 .A) W .typed x _ is .0)) $
     elem-back ! (session .row) q′ ys n freed (session .val x ∷ []) b o inside $ shuts-slice ! tt (session .row) q′ ys b o $

@@ -46,14 +46,17 @@ put-spec 𝓤 H 𝓜 𝓖 𝓡 = runs-as 𝓤 H 𝓜 𝓖 𝓡 ps nil Ens (both 
     let ys : List Session = y .0 in let n : ℕ = y .1 .0 in let yes : Bool = y .1 .1 .0 in let x : Session = y .1 .1 .1 .0 in
     let i : ℕ = cond (y .1 .1 .0) (y .1 .0) 16 in
     opened ! (ty nil) l (both tests points) ts (cells ps 0) bs (holds ps 0 s y) $
-    -- [the result 0; the place 2; whether it is one 4; the count 6; offset 8; pointer 10; slice 12; n 14; yes 16; session 18; tokens 20; owned]
+    -- [the result 0; the place 2; whether it is one 4; the count 6; offset 8; pointer 10; slice 12; n 14; yes 16; session 18; tokens 20;
+    -- owned]
     asks-values 𝓜 𝓖 𝓡 code.env ! fm (number w64 ∷ flag ∷ []) (number w64) (λ y r z. r ≡ cond (y .1 .0) (y .0) 16)
-    (record { name = meant-def.name; routine = meant-def.routine; met = meant-thm.met }) code.calls-lent·sessions·place-meant (n, (yes, tt)) (k .1 .0, (k .1 .1 .0, tt)) (λ _. and-then ! (load ! (from ! (stop !)) (look ! 15 refl))
+    (record { name = meant-def.name; routine = meant-def.routine; met = meant-thm.met }) code.calls-lent·sessions·place-meant (n, (yes, tt))
+    (k .1 .0, (k .1 .1 .0, tt)) (λ _. and-then ! (load ! (from ! (stop !)) (look ! 15 refl))
     (and-then ! (load ! (from ! (stop !)) (look ! 17 refl)) (no-more !))) (λ v r z e. arrives ! (number w64) i e 2 refl refl refl (λ is.
     assigns ! (of-opd ! (load ! (from ! (fld ! refl (stop !))) (look-in ! 12 (sub ! 1 refl (whole !))))) (from ! (stop !))
     (init ! 6 refl (tt, record { fits = k .0 .0 })) $
     asks-values 𝓜 𝓖 𝓡 code.env ! fm (number w64 ∷ number w64 ∷ []) flag (λ y r z. r ≡ ltb (y .0) 16 && ltb (y .0) (y .1 .0))
-    (record { name = within-def.name; routine = within-def.routine; met = within-thm.met }) code.calls-lent·sessions·within (i, (length ys, tt)) (is, ((refl, k .0 .0), tt)) (λ _. and-then ! (load ! (from ! (stop !)) (look ! 3 refl))
+    (record { name = within-def.name; routine = within-def.routine; met = within-thm.met }) code.calls-lent·sessions·within
+    (i, (length ys, tt)) (is, ((refl, k .0 .0), tt)) (λ _. and-then ! (load ! (from ! (stop !)) (look ! 3 refl))
     (and-then ! (load ! (from ! (stop !)) (look ! 7 refl)) (no-more !))) (λ v r z e. arrives ! flag (ltb i 16 && ltb i (length ys)) e 4
     refl refl refl (λ _. first ! $ branches ! (load ! (from ! (stop !)) (look ! 4 refl))
     (λ here.
@@ -61,12 +64,14 @@ put-spec 𝓤 H 𝓜 𝓖 𝓡 = runs-as 𝓤 H 𝓜 𝓖 𝓡 ps nil Ens (both 
     let far : i * 112 < 2 ^ 64 = omega (arith, k .0 .1, inside) in
     assigns ! (bin ! (load ! (from ! (stop !)) (look ! 2 refl)) (lit ! tt) (record { fits = far })) (from ! (stop !))
     (init ! 8 refl (tt, record { fits = far })) $
-    assigns ! (bin ! (load ! (from ! (fld ! refl (stop !))) (look-in ! 12 (sub ! 0 refl (whole !)))) (load ! (from ! (stop !)) (look ! 8 refl)) tt)
+    assigns ! (bin ! (load ! (from ! (fld ! refl (stop !))) (look-in ! 12 (sub ! 0 refl (whole !)))) (load ! (from ! (stop !))
+    (look ! 8 refl)) tt)
     (from ! (stop !)) (init ! 10 refl (tt, tt)) $
     rewrite ! 10 (λ (p : ℕ). ‵ (fat fullShare tyPtr (ts .1 .1) 0 (vptr b p))) (sym (place-is 112 o i)) refl $
     move ! (20 ∷ []) $ fsplit ! $ move ! (22 ∷ []) $ fsplit ! $ move ! (0 ∷ 2 ∷ []) $
     open-slice (session .row) (named 0) (named 0) (κs .0) (qs .0) (s .0 .2) b o ys ! tt $
-    elem-out ! (session .row) (Is (session .row)) (shows 𝓤 H (𝓖 .A) (session .row)) (λ d. session .val d ∷ []) (session .tells) fullShare ys i
+    elem-out ! (session .row) (Is (session .row)) (shows 𝓤 H (𝓖 .A) (session .row)) (λ d. session .val d ∷ [])
+    (session .tells) fullShare ys i
     freed b o inside (λ _. assigns-last ! (of-opd ! (load ! (from ! (stop !)) (look ! 26 refl))) (from ! (hop ! (look ! 18 refl) (stop !)))
     (store-raw ! 0 refl (session .lawful 𝓤 H (𝓖 .A) W .typed x _ (k .1 .1 .1 .0) .0)) $
     exec ! C Λ E (after (after (after (after (code.function .body))))) (atRet E Post) $
