@@ -1,6 +1,6 @@
 -- `answers::numbers` meets its contract.
 -- Assumes nothing.
-use Rattle.kerenvuf.proofs.AnswerLaws.{says-no, says-count, says-at, says-listed}
+use Rattle.kerenvuf.proofs.AnswerLaws.{says-no, says-as, says-listed}
 use borrow.Author.Needs.{needs}
 use Rattle.kerenvuf.proofs.answers.numbers.Statement.{statement}
 use Rattle.kerenvuf.proofs.answers.numbers.Tie as tie
@@ -9,5 +9,5 @@ pub numbers-spec : {M : Type 1} → statement M
 numbers-spec =
     tie.close (tie.spec (λ c. search needs) (λ c κs. search needs) (λ c κs. search needs) (λ c. search needs) (λ c κs. search needs)
     (λ c. search needs) (λ c κs. search needs) (λ c. search needs) (λ c κs. search needs) (λ c. search needs) (λ c κs. search needs)
-    (λ c κs. search needs) (λ c κs. search needs) (λ c. search says-no) (λ c. search says-count) (λ c. search says-at) (λ c. search needs)
+    (λ c κs. search needs) (λ c κs. search needs) (λ c. search says-no) (λ c. search says-as) (λ c. search says-as) (λ c. search needs)
     (λ c. search says-listed))

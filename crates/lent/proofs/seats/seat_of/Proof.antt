@@ -2,11 +2,10 @@
 -- calls, to each of which the slices are passed on as they were passed.
 -- Assumes nothing.
 use Rattle.lent.proofs.Kit.{_≡_, refl, ℕ, false, List, [], _∷_, length, w32, w64, tyInt, tyBool, vbool, vint, givenOf, Given, _$_}
-use Rattle.lent.proofs.Kit.{ ! }
-use Rattle.lent.proofs.Kit.{move, drop, fsplit, fjoin, Is, agg, look, init, stop, from, load, and-then, no-more, assigns, tablesOf}
-use Rattle.lent.proofs.Kit.{number, flag, clock, session, seat, arrives, Tree, bare, leaf, both, Param, seen, given, longs-same, ty}
-use Rattle.lent.proofs.Kit.{cells, holds, Says, Callee, knows, calls-on, runs-as, values, values-owned, span, opened, closed, twice}
-use Rattle.lent.proofs.Kit.{asks-slice}
+use Rattle.lent.proofs.Kit.{ !, move, drop, fsplit, fjoin, Is, agg, look, init, stop, from, load, and-then, no-more, assigns}
+use Rattle.lent.proofs.Kit.{tablesOf, number, flag, clock, session, seat, arrives, Tree, bare, leaf, both, Param, seen, given}
+use Rattle.lent.proofs.Kit.{longs-same, ty, cells, holds, Says, Callee, knows, calls-on, runs-as, values, values-owned, span}
+use Rattle.lent.proofs.Kit.{opened, closed, twice, asks-slice}
 use denote.Struct.Laws as SL
 use Rattle.tables.specs.declared.session.Session.{Session}
 use Rattle.tables.specs.declared.clock.Clock.{Clock}

@@ -2,7 +2,6 @@
 -- Assumes nothing.
 use Rattle.lent.proofs.Kit.{_≡_, _∙_, ap, false, List, [], _∷_, w64, number, flag, nil, session, Param, kept, lent, given, Says}
 use Rattle.lent.proofs.Kit.{view, asked, others, Gives-made, made}
-use Rattle.tables.specs.declared.session.Session.{Session}
 use Rattle.tables.specs.Sessions.{freed}
 use Rattle.lent.specs.Places.{listedBack, freedAt}
 use Rattle.tables.proofs.free_session.Symbol as made-def

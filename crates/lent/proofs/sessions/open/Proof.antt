@@ -2,7 +2,6 @@
 -- Assumes nothing.
 use Rattle.lent.proofs.Kit.{_≡_, _∙_, ap, true, false, List, [], _∷_, w64, number, flag, nil, session, stamp, row, Param, kept, lent}
 use Rattle.lent.proofs.Kit.{given, Says, view, asked, others, Gives-made, made}
-use Rattle.tables.specs.declared.session.Session.{Session}
 use Rattle.tables.specs.Sessions.{begun}
 use Rattle.lent.specs.Places.{listedBack, openedAt}
 use Rattle.tables.proofs.opened_session.Symbol as made-def
