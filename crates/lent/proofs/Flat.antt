@@ -4,7 +4,7 @@
 --     opened, closed   from a function's entry they are laid out; and at its end, laid out, they are freed
 --     twice            a `&` slice is had twice.        asks-values, asks-slice      a call that passes plain data alone, or a `&` slice in
 --                      front of it
---     sixteen          a loop over the numbers below 16
+--     counting         a loop over the numbers below a bound
 -- Assumes `Given`, and `FmC` of the table of calls where there is a call.
 use mathlib.Core.Path.{_≡_, refl}
 use Prim.Native.Nat.{ℕ, zero, suc, _+_, _-_, _<_, _≤_, _^_}
@@ -26,9 +26,11 @@ unfoldable use prog.Wp.{afterTurn}
 use ghost.Atoms.{Atoms}
 use contract.Lifetimes.{Lfts, Shares}
 use contract.Running.{Running, GhostRules, givenOf, tables}
-use types.Kit.{Given, Item, Goal, Post, anyQ, post, ‵, _⊛_, ⋆, mean, push, pop, runs, lands, atRet, Sq, Seq, Step, step, _$_, _∵_, !, qed}
+use types.Kit.{Given, Item, Goal, Post, anyQ, post, ‵, _⊛_, ⋆, mean, push, pop, runs, lands, atRet, Go, Sq, Seq, Step, step, _$_, _∵_, ! }
+use types.Kit.{qed}
 use types.Kit.{move, drop, use1, split, fsplit, fjoin, done}
-use types.Run.{Opds, Below, look, store, init, forget, stop, load, lit, bin, assigns, assigns-last, first, branches, skips, jumps, blocks}
+use types.Run.{Opd, Opds, Below, look, store, init, forget, stop, load, lit, bin, assigns, assigns-last, first, branches, skips, jumps}
+use types.Run.{blocks}
 use types.Run.{loops, exec, again as turn-again}
 use sound.WpLaws.{FmC}
 use denote.Laws.{Is}
@@ -159,26 +161,26 @@ module _ {M : Type 1} {𝓤 : URA M} {H : Heap 𝓤} (𝓜 : Model 𝓤 H) (𝓖
         calls-on t fm (seen D ∷ values Ds) R Ens (knows f 𝓤 H 𝓜 𝓖 𝓡 γ is) (κ, no-lives Ds) (p, no-parts Ds) (s, no-sites Ds) (y, ds) os
         (λ v r z h fit. move t (2 ∷ 1 ∷ []) $ drop t $ fsplit t $ move t (1 ∷ []) $ drop t $ move t (1 ∷ 0 ∷ []) $ c v r z h)
 
--- ---- the loop: its number is the local i, its test the local j; it goes on from what is known of the number n
+-- ---- the loop: its number is the local i, its test the local j, its bound m the operand e; X n is what is known at the number n
 module _ {M : Type 1} {𝓤 : URA M} {H : Heap 𝓤} {A : Atoms 𝓤} (W : Given 𝓤 H A) (𝓣 : Tables 𝓤 H) (E : Env 𝓤 H) (q : Post 𝓤 H) (i j b d : ℕ)
     (at-i : spotOf 𝓤 H E i ≡ (tyInt w64, b, zero)) (at-j : spotOf 𝓤 H E j ≡ (tyBool, d, zero)) (X : ℕ → Type 0)
-    (J : (n : ℕ) → X n → List (Item 𝓤)) (code : Body → Body) (rest : Body) where
+    (J : (n : ℕ) → X n → List (Item 𝓤)) (code : Body → Body) (rest : Body) (e : Operand) (m : ℕ)
+    (few : m < 2 ^ 64) where
   abbrev next : Body
   next = assign (place i []) (op2 (add unsigned) (copy (place i [])) (int w64 1))
 
   abbrev turn : Body
-  turn = seq (assign (place j []) (op2 (lt unsigned) (copy (place i [])) (int w64 16))) (seq (cond (copy (place j [])) skip (exit 1))
-      (code next))
+  turn = seq (assign (place j []) (op2 (lt unsigned) (copy (place i [])) e)) (seq (cond (copy (place j [])) skip (exit 1)) (code next))
 
   -- the number n, and the test as it came out there
   abbrev pub Counted : (n : ℕ) → List (Item 𝓤) → List (Item 𝓤)
-  Counted n Γ = laid (both (leaf (tyInt w64)) (leaf tyBool)) (b, d) (vint w64 n, vbool (ltb n 16)) Γ
+  Counted n Γ = laid (both (leaf (tyInt w64)) (leaf tyBool)) (b, d) (vint w64 n, vbool (ltb n m)) Γ
 
   abbrev State : Type 0
-  State = (n : ℕ) × (n ≤ 16) × X n
+  State = (n : ℕ) × (n ≤ m) × X n
 
   abbrev left : State → ℕ
-  left t = 16 - t .0
+  left t = m - t .0
 
   abbrev At : State → List (Item 𝓤)
   At t = laid (leaf (tyInt w64)) b (vint w64 (t .0)) (roomy (leaf tyBool) d (J (t .0) (t .2)))
@@ -187,25 +189,25 @@ module _ {M : Type 1} {𝓤 : URA M} {H : Heap 𝓤} {A : Atoms 𝓤} (W : Given
   Turned t = afterTurn 𝓤 H (Below 𝓤 H A (Nearer left) At t) (afterBlock 𝓤 H
       (afterSeq 𝓤 H (Wp 𝓤 H (𝓣 .C) (𝓣 .Λ) E rest (post 𝓤 H q)) (post 𝓤 H q)))
 
-  module _ (goes : (n : ℕ) → n < 16 → (x : X n) (p : Post 𝓤 H)
+  module _ (bound : (t : State) → Opd (Go {0}) W (At t) E e (vint w64 m)) (goes : (n : ℕ) → n < m → (x : X n) (p : Post 𝓤 H)
       → ((x′ : X (n + 1)) → Sq W (Counted n (J (n + 1) x′)) (runs (𝓣 .C) (𝓣 .Λ) E next p))
       → Sq W (Counted n (J n x)) (runs (𝓣 .C) (𝓣 .Λ) E (code next) p))
-      (ends : (n : ℕ) → n ≡ 16 → (x : X n) → Sq W (Counted n (J n x)) (runs (𝓣 .C) (𝓣 .Λ) E rest q)) where
+      (ends : (n : ℕ) → n ≡ m → (x : X n) → Sq W (Counted n (J n x)) (runs (𝓣 .C) (𝓣 .Λ) E rest q)) where
     turns : (t : State) → Sq W (At t) (runs (𝓣 .C) (𝓣 .Λ) E turn (anyQ (Turned t)))
     unfolding afterTurn
     turns t =
-        assigns ! (bin ! (load ! (from-at ! at-i (stop !)) (look ! 0 refl)) (lit ! tt) tt) (from-at ! at-j (stop !))
+        assigns ! (bin ! (load ! (from-at ! at-i (stop !)) (look ! 0 refl)) (bound t) tt) (from-at ! at-j (stop !))
         (init ! 2 refl (tt, tt)) $
         first ! $ branches ! (load ! (from-at ! at-j (stop !)) (look ! 2 refl))
-        (λ less. let l : t .0 < 16 = ltb→lt (t .0) 16 less in
-        let fits : t .0 + 1 < 2 ^ 64 = omega (arith, l) in
+        (λ less. let l : t .0 < m = ltb→lt (t .0) m less in
+        let fits : t .0 + 1 < 2 ^ 64 = omega (arith, l, few) in
         skips ! $ exec ! (𝓣 .C) (𝓣 .Λ) E (code next) (anyQ (Turned t)) $ goes (t .0) l (t .2) (anyQ (Turned t)) (λ x′.
         assigns-last ! (bin ! (load ! (from-at ! at-i (stop !)) (look ! 0 refl)) (lit ! tt) (record { fits = fits }))
         (from-at ! at-i (stop !))
         (store ! 0 refl (tt, record { fits = fits })) $ forget ! 2 refl $
         turn-again ! (Nearer left) At t (t .0 + 1, omega (arith, l), x′) (omega (arith, l))))
-        (λ over. jumps ! $ exec ! (𝓣 .C) (𝓣 .Λ) E rest q $ ends (t .0) (omega (arith, t .1, nltb→le (t .0) 16 over)) (t .2))
+        (λ over. jumps ! $ exec ! (𝓣 .C) (𝓣 .Λ) E rest q $ ends (t .0) (omega (arith, t .1, nltb→le (t .0) m over)) (t .2))
 
-    pub sixteen : (x : X 0) → Sq W (laid (leaf (tyInt w64)) b (vint w64 0) (roomy (leaf tyBool) d (J 0 x)))
+    pub counting : (x : X 0) → Sq W (laid (leaf (tyInt w64)) b (vint w64 0) (roomy (leaf tyBool) d (J 0 x)))
         (runs (𝓣 .C) (𝓣 .Λ) E (seq (block (loop turn)) rest) q)
-    sixteen x = first ! $ blocks ! $ loops ! 𝓣 (Nearer left) (nearer-wf left) At turns (0, omega arith, x)
+    counting x = first ! $ blocks ! $ loops ! 𝓣 (Nearer left) (nearer-wf left) At turns (0, omega arith, x)

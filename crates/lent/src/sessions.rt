@@ -84,6 +84,16 @@ pub fn free_all(t: &mut [Session], yes: bool)
     }
 }
 
+// How many places a loop goes through: all 16, or none.
+fn limit(yes: bool) -> u64
+    ensures { λ r. ⌜ r ≡ cond yes 16 0 ⌝ }
+{
+    if yes {
+        return 16;
+    }
+    0
+}
+
 // Whether a session fits, as all did before it.
 fn fits_too(log: &[u32], c: Clock, s: Session, ok: bool) -> bool
     ensures { λ r. ⌜ r ≡ ok && sessionJudged s (now (log .entry)) c ⌝ }
@@ -97,8 +107,9 @@ pub fn all_fit(t: &[Session], log: &[u32], c: Clock) -> bool
     ensures { λ r. ⌜ r ≡ allFit (now (t .entry)) (now (log .entry)) c ⌝ }
 {
     let mut ok = 16 <= t.len();
+    let end = limit(ok);
     let mut i = 0;
-    while i < 16 {
+    while i < end {
         let s = place(t, i);
         ok = fits_too(log, c, s, ok);
         i += 1;

@@ -8,7 +8,7 @@ use Rattle.lent.proofs.Kit.{rewrite, fsplit, fjoin, look, init, forget,
 use Rattle.lent.proofs.Kit.{assigns, sliceTy, sliceVal, MutSlice, Room, number, flag, nil, session, after, arrives, again, slice-at}
 use Rattle.lent.proofs.Kit.{lends-out, lent-in, Tree, bare, leaf, both, env, Param, unseen, kept, lent, given, own, Toks, Owned, ty}
 use Rattle.lent.proofs.Kit.{σ, cells, holds, Says, Callee, Ended-at, knows, calls-on, runs-as, passed, values, values-owned, span}
-use Rattle.lent.proofs.Kit.{laid, roomy, opened, closed, sixteen}
+use Rattle.lent.proofs.Kit.{laid, roomy, opened, closed, counting, int}
 use Rattle.tables.specs.declared.session.Session.{Session}
 use Rattle.lent.specs.Places.{freedAt, allFreed, leftFreed, freed-next, left-none, left-all}
 use Rattle.lent.proofs.sessions.free.Symbol as free-def
@@ -60,7 +60,8 @@ free-all-spec 𝓤 H 𝓜 𝓖 𝓡 =
     -- [the result 0; the number 2; the test 4; the unit 6; the pointer 8; the slice lent 10; the slice 12; yes 14; tokens 16; owned]
     assigns ! (of-opd ! (lit ! tt)) (from ! (stop !)) (init ! 2 refl (tt, record { fits = lit< tt })) $
     move ! (16 ∷ []) $ fsplit ! $ move ! (18 ∷ []) $ fsplit ! $ move ! (6 ∷ 7 ∷ 8 ∷ 9 ∷ 2 ∷ 0 ∷ 1 ∷ 3 ∷ []) $
-    sixteen W 𝓣 E (atRet E Post) 3 4 (ts .0) (ts .1 .0) refl refl X J turn (after (after (code.function .body)))
+    counting W 𝓣 E (atRet E Post) 3 4 (ts .0) (ts .1 .0) refl refl X J turn (after (after (code.function .body)))
+    (int w64 16) 16 (lit< tt) (λ _. lit ! tt)
     (λ n less x p go.
     let zs : List Session = x .0 in
     let fits : n < 2 ^ 64 = omega (arith, less) in
