@@ -32,7 +32,6 @@ pub use Rattle.calls.specs.Outcome.{Outcome, outcome}
 use Rattle.calls.specs.Calls.{createOf, beginOf, readOf, updateOf, deleteOf, insertOf, commitOf, tidyOf, abortOf}
 use Rattle.calls.specs.Query.{queryOf}
 use Rattle.calls.specs.declared.answers.Answer.{Answer}
-use Rattle.calls.specs.Seats as calls
 use Rattle.calls.specs.Seats.{Serves, Creates}
 pub use Rattle.calls.specs.Seats.{opening, relisting, freeing, untouched}
 pub use Rattle.index.proofs.Answers.{the-answer, the-begun, the-relisted, the-freed}
@@ -41,6 +40,8 @@ use Rattle.index.proofs.Answers.{begun-answer, begun-parts, relisted-an
 pub use Rattle.lent.proofs.Through.{outer, tail}
 pub use Rattle.lent.proofs.seat_of.Symbol.{name as seat-name, routine as seat-routine}
 pub use Rattle.lent.proofs.seat_of.Met.{met as seat-met}
+pub use Rattle.lent.proofs.open.Symbol.{name as open-name, routine as open-routine}
+pub use Rattle.lent.proofs.open.Met.{met as open-met}
 pub use Rattle.lent.proofs.put.Symbol.{name as put-name, routine as put-routine}
 pub use Rattle.lent.proofs.put.Met.{met as put-met}
 pub use Rattle.lent.proofs.free.Symbol.{name as free-name, routine as free-routine}

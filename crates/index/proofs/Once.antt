@@ -7,7 +7,9 @@ use mathlib.Core.List.{List, [], _∷_}
 use Prim.Native.Nat.{ℕ}
 use lib.ListN.{getD}
 use Rattle.tables.specs.declared.refusal.Refusal.{Refusal}
-use Rattle.tables.specs.declared.refusal.Refusal.the-variants.{NoRoom, Damaged, BadColumn, NoSession, NotOpen, NoValue, NoRow, RowAbsent, ListFull, ShortScratch, ListEmpty, Conflict, NothingToMove, Stale, RowsFull, RecordsFull, ChangesFull, SlotsFull, Unreadable}
+use Rattle.tables.specs.declared.refusal.Refusal.the-variants.{NoRoom, Damaged, BadColumn, NoSession, NotOpen, NoValue, NoRow}
+use Rattle.tables.specs.declared.refusal.Refusal.the-variants.{RowAbsent, ListFull, ShortScratch, ListEmpty, Conflict, NothingToMove, Stale}
+use Rattle.tables.specs.declared.refusal.Refusal.the-variants.{RowsFull, RecordsFull, ChangesFull, SlotsFull, Unreadable}
 use Rattle.tables.specs.Refusals.{numberOf}
 use Rattle.history.specs.declared.read.Standing.the-variants.{Holds, Absent}
 use Rattle.calls.specs.declared.answers.Answer.{Answer}
@@ -19,7 +21,9 @@ use Rattle.index.specs.Once.{Once, NoSecond}
 
 -- ---- the reason that a number is given for
 reasons : List Refusal
-reasons = NoRoom ∷ Damaged ∷ BadColumn ∷ NoSession ∷ NotOpen ∷ NoValue ∷ NoRow ∷ RowAbsent ∷ ListFull ∷ ShortScratch ∷ ListEmpty ∷ Conflict ∷ NothingToMove ∷ Stale ∷ RowsFull ∷ RecordsFull ∷ ChangesFull ∷ SlotsFull ∷ Unreadable ∷ []
+reasons =
+    NoRoom ∷ Damaged ∷ BadColumn ∷ NoSession ∷ NotOpen ∷ NoValue ∷ NoRow ∷ RowAbsent ∷ ListFull ∷ ShortScratch ∷ ListEmpty ∷ Conflict
+    ∷ NothingToMove ∷ Stale ∷ RowsFull ∷ RecordsFull ∷ ChangesFull ∷ SlotsFull ∷ Unreadable ∷ []
 
 abbrev reasonOf : ℕ → Refusal
 reasonOf n = getD (NoRoom ∷ reasons) n NoRoom

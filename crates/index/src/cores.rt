@@ -23,7 +23,11 @@ pub fn create_at(
     c: u64,
     column: &[u8],
 ) -> Freed
-    ensures { λ r. ⌜ Creates (tables (now (clock .entry)) (now (slots .entry)) (now (words .entry)) (now (heads .entry)) (now (log .entry)) (now (changes .entry))) (tables (now (clock .exit)) (now (slots .exit)) (now (words .exit)) (now (heads .exit)) (now (log .exit)) (now (changes .exit))) places r (λ t. createOf t c (now (column .entry))) ⌝ }
+    ensures { λ r. ⌜ Creates
+        (tables (now (clock .entry)) (now (slots .entry)) (now (words .entry)) (now (heads .entry))
+        (now (log .entry)) (now (changes .entry)))
+        (tables (now (clock .exit)) (now (slots .exit)) (now (words .exit)) (now (heads .exit))
+        (now (log .exit)) (now (changes .exit))) places r (λ t. createOf t c (now (column .entry))) ⌝ }
 {
     creating::create_in(clock, slots, words, heads, log, changes, places, c, column)
 }
@@ -39,7 +43,11 @@ pub fn begin_at(
     seat: Seat,
     n: u64,
 ) -> Begun
-    ensures { λ r. ⌜ Serves (tables (now (clock .entry)) (now (slots .entry)) (now (words .entry)) (now (heads .entry)) (now (log .entry)) (now (changes .entry))) (tables (now (clock .exit)) (now (slots .exit)) (now (words .exit)) (now (heads .exit)) (now (log .exit)) (now (changes .exit))) [] seat n (opening r n) (r .answer) (λ t. beginOf t n) ⌝ }
+    ensures { λ r. ⌜ Serves
+        (tables (now (clock .entry)) (now (slots .entry)) (now (words .entry)) (now (heads .entry))
+        (now (log .entry)) (now (changes .entry)))
+        (tables (now (clock .exit)) (now (slots .exit)) (now (words .exit)) (now (heads .exit))
+        (now (log .exit)) (now (changes .exit))) [] seat n (opening r n) (r .answer) (λ t. beginOf t n) ⌝ }
 {
     reading::begin_in(clock, slots, words, heads, log, changes, seat, n)
 }
@@ -58,7 +66,12 @@ pub fn query_at(
     v: u64,
     threshold: u64,
 ) -> Answer
-    ensures { λ r. ⌜ Serves (tables (now (clock .entry)) (now (slots .entry)) (now (words .entry)) (now (heads .entry)) (now (log .entry)) (now (changes .entry))) (tables (now (clock .exit)) (now (slots .exit)) (now (words .exit)) (now (heads .exit)) (now (log .exit)) (now (changes .exit))) (now (scratch .exit) ∷ []) seat n untouched r (λ t. queryOf t (now (scratch .entry)) n v threshold) ⌝ }
+    ensures { λ r. ⌜ Serves
+        (tables (now (clock .entry)) (now (slots .entry)) (now (words .entry)) (now (heads .entry))
+        (now (log .entry)) (now (changes .entry)))
+        (tables (now (clock .exit)) (now (slots .exit)) (now (words .exit)) (now (heads .exit))
+        (now (log .exit)) (now (changes .exit))) (now (scratch .exit) ∷ []) seat n untouched r
+        (λ t. queryOf t (now (scratch .entry)) n v threshold) ⌝ }
 {
     let value = calls::value_of(v);
     reading::query_in(
@@ -88,7 +101,11 @@ pub fn read_at(
     n: u64,
     row: u64,
 ) -> Answer
-    ensures { λ r. ⌜ Serves (tables (now (clock .entry)) (now (slots .entry)) (now (words .entry)) (now (heads .entry)) (now (log .entry)) (now (changes .entry))) (tables (now (clock .exit)) (now (slots .exit)) (now (words .exit)) (now (heads .exit)) (now (log .exit)) (now (changes .exit))) [] seat n untouched r (λ t. readOf t n row) ⌝ }
+    ensures { λ r. ⌜ Serves
+        (tables (now (clock .entry)) (now (slots .entry)) (now (words .entry)) (now (heads .entry))
+        (now (log .entry)) (now (changes .entry)))
+        (tables (now (clock .exit)) (now (slots .exit)) (now (words .exit)) (now (heads .exit))
+        (now (log .exit)) (now (changes .exit))) [] seat n untouched r (λ t. readOf t n row) ⌝ }
 {
     let at = calls::row_of(row);
     reading::read_in(clock, slots, words, heads, log, changes, seat, n, at)
@@ -107,7 +124,11 @@ pub fn update_at(
     row: u64,
     v: u64,
 ) -> Relisted
-    ensures { λ r. ⌜ Serves (tables (now (clock .entry)) (now (slots .entry)) (now (words .entry)) (now (heads .entry)) (now (log .entry)) (now (changes .entry))) (tables (now (clock .exit)) (now (slots .exit)) (now (words .exit)) (now (heads .exit)) (now (log .exit)) (now (changes .exit))) [] seat n (relisting r n) (r .answer) (λ t. updateOf t n row v) ⌝ }
+    ensures { λ r. ⌜ Serves
+        (tables (now (clock .entry)) (now (slots .entry)) (now (words .entry)) (now (heads .entry))
+        (now (log .entry)) (now (changes .entry)))
+        (tables (now (clock .exit)) (now (slots .exit)) (now (words .exit)) (now (heads .exit))
+        (now (log .exit)) (now (changes .exit))) [] seat n (relisting r n) (r .answer) (λ t. updateOf t n row v) ⌝ }
 {
     let at = calls::row_of(row);
     let value = calls::value_of(v);
@@ -126,7 +147,11 @@ pub fn delete_at(
     n: u64,
     row: u64,
 ) -> Relisted
-    ensures { λ r. ⌜ Serves (tables (now (clock .entry)) (now (slots .entry)) (now (words .entry)) (now (heads .entry)) (now (log .entry)) (now (changes .entry))) (tables (now (clock .exit)) (now (slots .exit)) (now (words .exit)) (now (heads .exit)) (now (log .exit)) (now (changes .exit))) [] seat n (relisting r n) (r .answer) (λ t. deleteOf t n row) ⌝ }
+    ensures { λ r. ⌜ Serves
+        (tables (now (clock .entry)) (now (slots .entry)) (now (words .entry)) (now (heads .entry))
+        (now (log .entry)) (now (changes .entry)))
+        (tables (now (clock .exit)) (now (slots .exit)) (now (words .exit)) (now (heads .exit))
+        (now (log .exit)) (now (changes .exit))) [] seat n (relisting r n) (r .answer) (λ t. deleteOf t n row) ⌝ }
 {
     let at = calls::row_of(row);
     listing::delete_in(clock, slots, words, heads, log, changes, seat, n, at)
@@ -144,7 +169,11 @@ pub fn insert_at(
     n: u64,
     v: u64,
 ) -> Relisted
-    ensures { λ r. ⌜ Serves (tables (now (clock .entry)) (now (slots .entry)) (now (words .entry)) (now (heads .entry)) (now (log .entry)) (now (changes .entry))) (tables (now (clock .exit)) (now (slots .exit)) (now (words .exit)) (now (heads .exit)) (now (log .exit)) (now (changes .exit))) [] seat n (relisting r n) (r .answer) (λ t. insertOf t n v) ⌝ }
+    ensures { λ r. ⌜ Serves
+        (tables (now (clock .entry)) (now (slots .entry)) (now (words .entry)) (now (heads .entry))
+        (now (log .entry)) (now (changes .entry)))
+        (tables (now (clock .exit)) (now (slots .exit)) (now (words .exit)) (now (heads .exit))
+        (now (log .exit)) (now (changes .exit))) [] seat n (relisting r n) (r .answer) (λ t. insertOf t n v) ⌝ }
 {
     let value = calls::value_of(v);
     listing::insert_in(clock, slots, words, heads, log, changes, seat, n, value)
@@ -161,7 +190,11 @@ pub fn commit_at(
     seat: Seat,
     n: u64,
 ) -> Freed
-    ensures { λ r. ⌜ Serves (tables (now (clock .entry)) (now (slots .entry)) (now (words .entry)) (now (heads .entry)) (now (log .entry)) (now (changes .entry))) (tables (now (clock .exit)) (now (slots .exit)) (now (words .exit)) (now (heads .exit)) (now (log .exit)) (now (changes .exit))) [] seat n (freeing r n) (r .answer) (λ t. commitOf t n) ⌝ }
+    ensures { λ r. ⌜ Serves
+        (tables (now (clock .entry)) (now (slots .entry)) (now (words .entry)) (now (heads .entry))
+        (now (log .entry)) (now (changes .entry)))
+        (tables (now (clock .exit)) (now (slots .exit)) (now (words .exit)) (now (heads .exit))
+        (now (log .exit)) (now (changes .exit))) [] seat n (freeing r n) (r .answer) (λ t. commitOf t n) ⌝ }
 {
     committing::commit_in(clock, slots, words, heads, log, changes, seat, n)
 }
@@ -178,7 +211,11 @@ pub fn tidy_at(
     n: u64,
     v: u64,
 ) -> Answer
-    ensures { λ r. ⌜ Serves (tables (now (clock .entry)) (now (slots .entry)) (now (words .entry)) (now (heads .entry)) (now (log .entry)) (now (changes .entry))) (tables (now (clock .exit)) (now (slots .exit)) (now (words .exit)) (now (heads .exit)) (now (log .exit)) (now (changes .exit))) [] seat n untouched r (λ t. tidyOf t n v) ⌝ }
+    ensures { λ r. ⌜ Serves
+        (tables (now (clock .entry)) (now (slots .entry)) (now (words .entry)) (now (heads .entry))
+        (now (log .entry)) (now (changes .entry)))
+        (tables (now (clock .exit)) (now (slots .exit)) (now (words .exit)) (now (heads .exit))
+        (now (log .exit)) (now (changes .exit))) [] seat n untouched r (λ t. tidyOf t n v) ⌝ }
 {
     let value = calls::value_of(v);
     tidying::tidy_in(clock, slots, words, heads, log, changes, seat, n, value)
@@ -195,7 +232,11 @@ pub fn abort_at(
     seat: Seat,
     n: u64,
 ) -> Freed
-    ensures { λ r. ⌜ Serves (tables (now (clock .entry)) (now (slots .entry)) (now (words .entry)) (now (heads .entry)) (now (log .entry)) (now (changes .entry))) (tables (now (clock .exit)) (now (slots .exit)) (now (words .exit)) (now (heads .exit)) (now (log .exit)) (now (changes .exit))) [] seat n (freeing r n) (r .answer) (λ t. abortOf t n) ⌝ }
+    ensures { λ r. ⌜ Serves
+        (tables (now (clock .entry)) (now (slots .entry)) (now (words .entry)) (now (heads .entry))
+        (now (log .entry)) (now (changes .entry)))
+        (tables (now (clock .exit)) (now (slots .exit)) (now (words .exit)) (now (heads .exit))
+        (now (log .exit)) (now (changes .exit))) [] seat n (freeing r n) (r .answer) (λ t. abortOf t n) ⌝ }
 {
     reading::abort_in(clock, slots, words, heads, log, changes, seat, n)
 }

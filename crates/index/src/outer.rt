@@ -32,7 +32,11 @@ pub fn create(
     c: u64,
     column: &[u8],
 ) -> Answer
-    ensures { λ r. ⌜ outcome (tables (now (clock .exit)) (now (slots .exit)) (now (words .exit)) (now (heads .exit)) (now (log .exit)) (now (changes .exit)) (now (sessions .exit))) [] (said r) ≡ createOf (tables (now (clock .entry)) (now (slots .entry)) (now (words .entry)) (now (heads .entry)) (now (log .entry)) (now (changes .entry)) (now (sessions .entry))) c (now (column .entry)) ⌝ }
+    ensures { λ r. ⌜ outcome
+        (tables (now (clock .exit)) (now (slots .exit)) (now (words .exit)) (now (heads .exit))
+        (now (log .exit)) (now (changes .exit)) (now (sessions .exit))) [] (said r) ≡ createOf
+        (tables (now (clock .entry)) (now (slots .entry)) (now (words .entry)) (now (heads .entry))
+        (now (log .entry)) (now (changes .entry)) (now (sessions .entry))) c (now (column .entry)) ⌝ }
 {
     let many = lent::places(sessions);
     let d = create_at(clock, slots, words, heads, log, changes, many, c, column);
@@ -51,7 +55,11 @@ pub fn begin(
     sessions: &mut [Session],
     n: u64,
 ) -> Answer
-    ensures { λ r. ⌜ outcome (tables (now (clock .exit)) (now (slots .exit)) (now (words .exit)) (now (heads .exit)) (now (log .exit)) (now (changes .exit)) (now (sessions .exit))) [] (said r) ≡ beginOf (tables (now (clock .entry)) (now (slots .entry)) (now (words .entry)) (now (heads .entry)) (now (log .entry)) (now (changes .entry)) (now (sessions .entry))) n ⌝ }
+    ensures { λ r. ⌜ outcome
+        (tables (now (clock .exit)) (now (slots .exit)) (now (words .exit)) (now (heads .exit))
+        (now (log .exit)) (now (changes .exit)) (now (sessions .exit))) [] (said r) ≡ beginOf
+        (tables (now (clock .entry)) (now (slots .entry)) (now (words .entry)) (now (heads .entry))
+        (now (log .entry)) (now (changes .entry)) (now (sessions .entry))) n ⌝ }
 {
     let seat = lent::seat_of(clock, log, sessions, n);
     let d = begin_at(clock, slots, words, heads, log, changes, seat, n);
@@ -73,7 +81,11 @@ pub fn query(
     v: u64,
     threshold: u64,
 ) -> Answer
-    ensures { λ r. ⌜ outcome (tables (now (clock .exit)) (now (slots .exit)) (now (words .exit)) (now (heads .exit)) (now (log .exit)) (now (changes .exit)) (now (sessions .exit))) (now (scratch .exit) ∷ []) (said r) ≡ queryOf (tables (now (clock .entry)) (now (slots .entry)) (now (words .entry)) (now (heads .entry)) (now (log .entry)) (now (changes .entry)) (now (sessions .entry))) (now (scratch .entry)) n v threshold ⌝ }
+    ensures { λ r. ⌜ outcome
+        (tables (now (clock .exit)) (now (slots .exit)) (now (words .exit)) (now (heads .exit))
+        (now (log .exit)) (now (changes .exit)) (now (sessions .exit))) (now (scratch .exit) ∷ []) (said r) ≡ queryOf
+        (tables (now (clock .entry)) (now (slots .entry)) (now (words .entry)) (now (heads .entry))
+        (now (log .entry)) (now (changes .entry)) (now (sessions .entry))) (now (scratch .entry)) n v threshold ⌝ }
 {
     let seat = lent::seat_of(clock, log, sessions, n);
     query_at(
@@ -103,7 +115,11 @@ pub fn read(
     n: u64,
     row: u64,
 ) -> Answer
-    ensures { λ r. ⌜ outcome (tables (now (clock .exit)) (now (slots .exit)) (now (words .exit)) (now (heads .exit)) (now (log .exit)) (now (changes .exit)) (now (sessions .exit))) [] (said r) ≡ readOf (tables (now (clock .entry)) (now (slots .entry)) (now (words .entry)) (now (heads .entry)) (now (log .entry)) (now (changes .entry)) (now (sessions .entry))) n row ⌝ }
+    ensures { λ r. ⌜ outcome
+        (tables (now (clock .exit)) (now (slots .exit)) (now (words .exit)) (now (heads .exit))
+        (now (log .exit)) (now (changes .exit)) (now (sessions .exit))) [] (said r) ≡ readOf
+        (tables (now (clock .entry)) (now (slots .entry)) (now (words .entry)) (now (heads .entry))
+        (now (log .entry)) (now (changes .entry)) (now (sessions .entry))) n row ⌝ }
 {
     let seat = lent::seat_of(clock, log, sessions, n);
     read_at(clock, slots, words, heads, log, changes, seat, n, row)
@@ -122,7 +138,11 @@ pub fn update(
     row: u64,
     v: u64,
 ) -> Answer
-    ensures { λ r. ⌜ outcome (tables (now (clock .exit)) (now (slots .exit)) (now (words .exit)) (now (heads .exit)) (now (log .exit)) (now (changes .exit)) (now (sessions .exit))) [] (said r) ≡ updateOf (tables (now (clock .entry)) (now (slots .entry)) (now (words .entry)) (now (heads .entry)) (now (log .entry)) (now (changes .entry)) (now (sessions .entry))) n row v ⌝ }
+    ensures { λ r. ⌜ outcome
+        (tables (now (clock .exit)) (now (slots .exit)) (now (words .exit)) (now (heads .exit))
+        (now (log .exit)) (now (changes .exit)) (now (sessions .exit))) [] (said r) ≡ updateOf
+        (tables (now (clock .entry)) (now (slots .entry)) (now (words .entry)) (now (heads .entry))
+        (now (log .entry)) (now (changes .entry)) (now (sessions .entry))) n row v ⌝ }
 {
     let seat = lent::seat_of(clock, log, sessions, n);
     let d = update_at(clock, slots, words, heads, log, changes, seat, n, row, v);
@@ -142,7 +162,11 @@ pub fn delete(
     n: u64,
     row: u64,
 ) -> Answer
-    ensures { λ r. ⌜ outcome (tables (now (clock .exit)) (now (slots .exit)) (now (words .exit)) (now (heads .exit)) (now (log .exit)) (now (changes .exit)) (now (sessions .exit))) [] (said r) ≡ deleteOf (tables (now (clock .entry)) (now (slots .entry)) (now (words .entry)) (now (heads .entry)) (now (log .entry)) (now (changes .entry)) (now (sessions .entry))) n row ⌝ }
+    ensures { λ r. ⌜ outcome
+        (tables (now (clock .exit)) (now (slots .exit)) (now (words .exit)) (now (heads .exit))
+        (now (log .exit)) (now (changes .exit)) (now (sessions .exit))) [] (said r) ≡ deleteOf
+        (tables (now (clock .entry)) (now (slots .entry)) (now (words .entry)) (now (heads .entry))
+        (now (log .entry)) (now (changes .entry)) (now (sessions .entry))) n row ⌝ }
 {
     let seat = lent::seat_of(clock, log, sessions, n);
     let d = delete_at(clock, slots, words, heads, log, changes, seat, n, row);
@@ -162,7 +186,11 @@ pub fn insert(
     n: u64,
     v: u64,
 ) -> Answer
-    ensures { λ r. ⌜ outcome (tables (now (clock .exit)) (now (slots .exit)) (now (words .exit)) (now (heads .exit)) (now (log .exit)) (now (changes .exit)) (now (sessions .exit))) [] (said r) ≡ insertOf (tables (now (clock .entry)) (now (slots .entry)) (now (words .entry)) (now (heads .entry)) (now (log .entry)) (now (changes .entry)) (now (sessions .entry))) n v ⌝ }
+    ensures { λ r. ⌜ outcome
+        (tables (now (clock .exit)) (now (slots .exit)) (now (words .exit)) (now (heads .exit))
+        (now (log .exit)) (now (changes .exit)) (now (sessions .exit))) [] (said r) ≡ insertOf
+        (tables (now (clock .entry)) (now (slots .entry)) (now (words .entry)) (now (heads .entry))
+        (now (log .entry)) (now (changes .entry)) (now (sessions .entry))) n v ⌝ }
 {
     let seat = lent::seat_of(clock, log, sessions, n);
     let d = insert_at(clock, slots, words, heads, log, changes, seat, n, v);
@@ -181,7 +209,11 @@ pub fn commit(
     sessions: &mut [Session],
     n: u64,
 ) -> Answer
-    ensures { λ r. ⌜ outcome (tables (now (clock .exit)) (now (slots .exit)) (now (words .exit)) (now (heads .exit)) (now (log .exit)) (now (changes .exit)) (now (sessions .exit))) [] (said r) ≡ commitOf (tables (now (clock .entry)) (now (slots .entry)) (now (words .entry)) (now (heads .entry)) (now (log .entry)) (now (changes .entry)) (now (sessions .entry))) n ⌝ }
+    ensures { λ r. ⌜ outcome
+        (tables (now (clock .exit)) (now (slots .exit)) (now (words .exit)) (now (heads .exit))
+        (now (log .exit)) (now (changes .exit)) (now (sessions .exit))) [] (said r) ≡ commitOf
+        (tables (now (clock .entry)) (now (slots .entry)) (now (words .entry)) (now (heads .entry))
+        (now (log .entry)) (now (changes .entry)) (now (sessions .entry))) n ⌝ }
 {
     let seat = lent::seat_of(clock, log, sessions, n);
     let d = commit_at(clock, slots, words, heads, log, changes, seat, n);
@@ -201,7 +233,11 @@ pub fn tidy(
     n: u64,
     v: u64,
 ) -> Answer
-    ensures { λ r. ⌜ outcome (tables (now (clock .exit)) (now (slots .exit)) (now (words .exit)) (now (heads .exit)) (now (log .exit)) (now (changes .exit)) (now (sessions .exit))) [] (said r) ≡ tidyOf (tables (now (clock .entry)) (now (slots .entry)) (now (words .entry)) (now (heads .entry)) (now (log .entry)) (now (changes .entry)) (now (sessions .entry))) n v ⌝ }
+    ensures { λ r. ⌜ outcome
+        (tables (now (clock .exit)) (now (slots .exit)) (now (words .exit)) (now (heads .exit))
+        (now (log .exit)) (now (changes .exit)) (now (sessions .exit))) [] (said r) ≡ tidyOf
+        (tables (now (clock .entry)) (now (slots .entry)) (now (words .entry)) (now (heads .entry))
+        (now (log .entry)) (now (changes .entry)) (now (sessions .entry))) n v ⌝ }
 {
     let seat = lent::seat_of(clock, log, sessions, n);
     tidy_at(clock, slots, words, heads, log, changes, seat, n, v)
@@ -218,7 +254,11 @@ pub fn abort(
     sessions: &mut [Session],
     n: u64,
 ) -> Answer
-    ensures { λ r. ⌜ outcome (tables (now (clock .exit)) (now (slots .exit)) (now (words .exit)) (now (heads .exit)) (now (log .exit)) (now (changes .exit)) (now (sessions .exit))) [] (said r) ≡ abortOf (tables (now (clock .entry)) (now (slots .entry)) (now (words .entry)) (now (heads .entry)) (now (log .entry)) (now (changes .entry)) (now (sessions .entry))) n ⌝ }
+    ensures { λ r. ⌜ outcome
+        (tables (now (clock .exit)) (now (slots .exit)) (now (words .exit)) (now (heads .exit))
+        (now (log .exit)) (now (changes .exit)) (now (sessions .exit))) [] (said r) ≡ abortOf
+        (tables (now (clock .entry)) (now (slots .entry)) (now (words .entry)) (now (heads .entry))
+        (now (log .entry)) (now (changes .entry)) (now (sessions .entry))) n ⌝ }
 {
     let seat = lent::seat_of(clock, log, sessions, n);
     let d = abort_at(clock, slots, words, heads, log, changes, seat, n);

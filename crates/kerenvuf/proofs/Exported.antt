@@ -1,5 +1,5 @@
 -- The exports as instances of one walk: the call of the index, and its answer in numbers.
---     the-numbers, Numbered        the numbers of an answer as plain data in a walk, and what the function says that gives them
+--     the-numbers, Numbered, numbering     the numbers of an answer as plain data in a walk, and the function that gives them
 --     Seen-of          what an export says: C sees what the call's definition says.        encodes       that it follows
 -- Assumes nothing.
 use mathlib.Core.Path.{_≡_, _∙_, ap}
@@ -8,25 +8,29 @@ use Prim.Native.Nat.{ℕ}
 use Rattle.tables.specs.Cells.{Tables}
 use Rattle.lent.proofs.Data.{Data, struct}
 pub use Rattle.lent.proofs.Slices.{watched}
-use Rattle.lent.proofs.Lent.{Says}
+use Rattle.lent.proofs.Lent.{Says, Callee}
 use Rattle.lent.proofs.Passes.{values}
 pub use Rattle.lent.proofs.Through.{then}
 use Rattle.calls.specs.declared.answers.Answer.{Answer}
 use Rattle.calls.specs.Said.{said}
 use Rattle.calls.specs.Outcome.{Outcome, outcome}
-pub use Rattle.index.proofs.Calls.{the-answer, on-tables, tabs, past, Call, Comes-to}
+pub use Rattle.index.proofs.Calls.{the-answer, on-tables, tabs, past, Call, Comes-to, creates, begins, asks, reads, updates, deletes}
+pub use Rattle.index.proofs.Calls.{inserts, commits, tidies, aborts}
 use Rattle.kerenvuf.specs.declared.answers.KvAnswer.{KvAnswer}
 use Rattle.kerenvuf.specs.Heard.{seen, told, encoded}
 use Rattle.kerenvuf.proofs.answers.KvAnswer as K
 use Rattle.kerenvuf.proofs.answers.KvAnswer.Laws as KL
-pub use Rattle.kerenvuf.proofs.answers.numbers.Symbol.{name as numbers-name, routine as numbers-routine}
-pub use Rattle.kerenvuf.proofs.answers.numbers.Met.{met as numbers-met}
+use Rattle.kerenvuf.proofs.answers.numbers.Symbol as numbers-def
+use Rattle.kerenvuf.proofs.answers.numbers.Met as numbers-thm
 
 abbrev pub the-numbers : Data
 the-numbers = struct K.the-type KL.the-laws KL.the-plain KL.the-copy
 
 abbrev pub Numbered : Says (values (the-answer ∷ [])) the-numbers
 Numbered y r z = r ≡ encoded (said (y .0))
+
+abbrev pub numbering : Callee (values (the-answer ∷ [])) the-numbers Numbered
+numbering = record { name = numbers-def.name; routine = numbers-def.routine; met = numbers-thm.met }
 
 abbrev pub Seen-of : (c : Call) → Says (on-tables watched (c .more)) the-numbers
 Seen-of c y r z = seen (tabs z (past z .0)) (c .buffers (past z .1)) r ≡ told (c .comes (past y .1) (tabs y (past y .0)))

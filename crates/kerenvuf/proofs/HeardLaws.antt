@@ -63,7 +63,8 @@ slot-kept n true i l = ap (words n true) (slot-again i l)
 slot-kept n false i l = ap (words n false) (slot-again i l)
 
 -- ---- a call that refuses, or comes to this
-unless-kept : (w : Option ℕ) (t : Tables) (bs : List (List ℕ)) (o : Outcome) → (w ≡ none → Kept (o .answer)) → Kept (unless w t bs o .answer)
+unless-kept : (w : Option ℕ) (t : Tables) (bs : List (List ℕ)) (o : Outcome) → (w ≡ none → Kept (o .answer))
+    → Kept (unless w t bs o .answer)
 unfolding unless
 unless-kept (some n) t bs o k = no-kept n
 unless-kept none t bs o k = k refl
@@ -72,44 +73,9 @@ two-kept : (b : Bool) (o p : Outcome) → Kept (o .answer) → Kept (p .answer) 
 two-kept true o p h k = h
 two-kept false o p h k = k
 
-begin-kept : (t : Tables) (n : ℕ) → Kept (beginOf t n .answer)
-unfolding beginOf beginning
-begin-kept t n = unless-kept (refusalAt t (begin n)) t [] _ (λ e. two-kept (eqb (own t n .live) 1) _ _ (stamp-kept _ _) (stamp-kept _ _))
-
-create-kept : (t : Tables) (c : ℕ) (column : List ℕ) → Kept (createOf t c column .answer)
-unfolding createOf
-create-kept t c column = unless-kept (refusalOfCreate t (create c (columnOf column))) t [] _ (λ e. count-kept (length column))
-
-read-kept : (t : Tables) (n row : ℕ) → Kept (readOf t n row .answer)
-unfolding readOf
-read-kept t n row = unless-kept (refusalAt t (read n row)) t [] _ (λ e. value-kept _)
-
-update-kept : (t : Tables) (n row v : ℕ) → Kept (updateOf t n row v .answer)
-unfolding updateOf
-update-kept t n row v = unless-kept (refusalAt t (update n row v)) t [] _ (λ e. count-kept _)
-
-delete-kept : (t : Tables) (n row : ℕ) → Kept (deleteOf t n row .answer)
-unfolding deleteOf
-delete-kept t n row = unless-kept (refusalAt t (delete n row)) t [] _ (λ e. count-kept _)
-
-insert-kept : (t : Tables) (n v : ℕ) → Kept (insertOf t n v .answer)
-unfolding insertOf
-insert-kept t n v = unless-kept (refusalAt t (insert n v)) t [] _ (λ e. count-kept _)
-
-commit-kept : (t : Tables) (n : ℕ) → Kept (commitOf t n .answer)
-unfolding commitOf
-commit-kept t n = unless-kept (refusalAt t (commit n)) t [] _ (λ e. stamp-kept _ _)
-
-tidy-kept : (t : Tables) (n v : ℕ) → Kept (tidyOf t n v .answer)
-unfolding tidyOf
-tidy-kept t n v = unless-kept (refusalAt t (tidy n v)) t [] _ (λ e. stamp-kept _ _)
-
-abort-kept : (t : Tables) (n : ℕ) → Kept (abortOf t n .answer)
-unfolding abortOf
-abort-kept t n = unless-kept (refusalAt t (abort n)) t [] _ (λ e. count-kept _)
-
 -- ---- query: the slot that an accepted query names is one of the 96
-slot-low : (t : Tables) (n v threshold length s : ℕ) → refusalAt t (query n v threshold length) ≡ none → slotSeen (t .slots) (t .heads) s v < 96
+slot-low : (t : Tables) (n v threshold length s : ℕ) → refusalAt t (query n v threshold length) ≡ none
+    → slotSeen (t .slots) (t .heads) s v < 96
 unfolding tests
 slot-low t n v threshold length s e =
     let yes = accepted t (query n v threshold length) e in
@@ -132,16 +98,18 @@ module _ (t : Tables) (scratch : List ℕ) (n v threshold : ℕ) where
   unfolding queryOf
   query-kept = unless-kept (refusalAt t (query n v threshold (length scratch))) t (scratch ∷ []) _ answered
 
+-- ---- every call
 pub all-heard : AllHeard
+unfolding createOf beginOf beginning readOf updateOf deleteOf insertOf commitOf tidyOf abortOf
 all-heard = record {
-  create = create-kept;
-  begin = begin-kept;
+  create = λ t c column. unless-kept (refusalOfCreate t (create c (columnOf column))) t [] _ (λ e. count-kept (length column));
+  begin = λ t n. unless-kept (refusalAt t (begin n)) t [] _ (λ e. two-kept (eqb (own t n .live) 1) _ _ (stamp-kept _ _) (stamp-kept _ _));
   query = query-kept;
-  read = read-kept;
-  update = update-kept;
-  delete = delete-kept;
-  insert = insert-kept;
-  commit = commit-kept;
-  tidy = tidy-kept;
-  abort = abort-kept;
+  read = λ t n row. unless-kept (refusalAt t (read n row)) t [] _ (λ e. value-kept _);
+  update = λ t n row v. unless-kept (refusalAt t (update n row v)) t [] _ (λ e. count-kept _);
+  delete = λ t n row. unless-kept (refusalAt t (delete n row)) t [] _ (λ e. count-kept _);
+  insert = λ t n v. unless-kept (refusalAt t (insert n v)) t [] _ (λ e. count-kept _);
+  commit = λ t n. unless-kept (refusalAt t (commit n)) t [] _ (λ e. stamp-kept _ _);
+  tidy = λ t n v. unless-kept (refusalAt t (tidy n v)) t [] _ (λ e. stamp-kept _ _);
+  abort = λ t n. unless-kept (refusalAt t (abort n)) t [] _ (λ e. count-kept _);
 }

@@ -23,7 +23,11 @@ pub extern "C" fn kv_create(
     c: u64,
     column: &[u8],
 ) -> KvAnswer
-    ensures { λ r. ⌜ seen (tables (now (clock .exit)) (now (slots .exit)) (now (words .exit)) (now (heads .exit)) (now (log .exit)) (now (changes .exit)) (now (sessions .exit))) [] r ≡ told (createOf (tables (now (clock .entry)) (now (slots .entry)) (now (words .entry)) (now (heads .entry)) (now (log .entry)) (now (changes .entry)) (now (sessions .entry))) c (now (column .entry))) ⌝ }
+    ensures { λ r. ⌜ seen
+        (tables (now (clock .exit)) (now (slots .exit)) (now (words .exit)) (now (heads .exit))
+        (now (log .exit)) (now (changes .exit)) (now (sessions .exit))) [] r ≡ told (createOf
+        (tables (now (clock .entry)) (now (slots .entry)) (now (words .entry)) (now (heads .entry))
+        (now (log .entry)) (now (changes .entry)) (now (sessions .entry))) c (now (column .entry))) ⌝ }
 {
     let answer = index::create(
         clock,
@@ -51,7 +55,11 @@ pub extern "C" fn kv_begin(
     sessions: &mut [Session],
     n: u64,
 ) -> KvAnswer
-    ensures { λ r. ⌜ seen (tables (now (clock .exit)) (now (slots .exit)) (now (words .exit)) (now (heads .exit)) (now (log .exit)) (now (changes .exit)) (now (sessions .exit))) [] r ≡ told (beginOf (tables (now (clock .entry)) (now (slots .entry)) (now (words .entry)) (now (heads .entry)) (now (log .entry)) (now (changes .entry)) (now (sessions .entry))) n) ⌝ }
+    ensures { λ r. ⌜ seen
+        (tables (now (clock .exit)) (now (slots .exit)) (now (words .exit)) (now (heads .exit))
+        (now (log .exit)) (now (changes .exit)) (now (sessions .exit))) [] r ≡ told (beginOf
+        (tables (now (clock .entry)) (now (slots .entry)) (now (words .entry)) (now (heads .entry))
+        (now (log .entry)) (now (changes .entry)) (now (sessions .entry))) n) ⌝ }
 {
     let answer = index::begin(clock, slots, words, heads, log, changes, sessions, n);
     numbers(answer)
@@ -72,7 +80,11 @@ pub extern "C" fn kv_query(
     v: u64,
     threshold: u64,
 ) -> KvAnswer
-    ensures { λ r. ⌜ seen (tables (now (clock .exit)) (now (slots .exit)) (now (words .exit)) (now (heads .exit)) (now (log .exit)) (now (changes .exit)) (now (sessions .exit))) (now (scratch .exit) ∷ []) r ≡ told (queryOf (tables (now (clock .entry)) (now (slots .entry)) (now (words .entry)) (now (heads .entry)) (now (log .entry)) (now (changes .entry)) (now (sessions .entry))) (now (scratch .entry)) n v threshold) ⌝ }
+    ensures { λ r. ⌜ seen
+        (tables (now (clock .exit)) (now (slots .exit)) (now (words .exit)) (now (heads .exit))
+        (now (log .exit)) (now (changes .exit)) (now (sessions .exit))) (now (scratch .exit) ∷ []) r ≡ told (queryOf
+        (tables (now (clock .entry)) (now (slots .entry)) (now (words .entry)) (now (heads .entry))
+        (now (log .entry)) (now (changes .entry)) (now (sessions .entry))) (now (scratch .entry)) n v threshold) ⌝ }
 {
     let answer = index::query(
         clock,
@@ -103,7 +115,11 @@ pub extern "C" fn kv_read(
     n: u64,
     row: u64,
 ) -> KvAnswer
-    ensures { λ r. ⌜ seen (tables (now (clock .exit)) (now (slots .exit)) (now (words .exit)) (now (heads .exit)) (now (log .exit)) (now (changes .exit)) (now (sessions .exit))) [] r ≡ told (readOf (tables (now (clock .entry)) (now (slots .entry)) (now (words .entry)) (now (heads .entry)) (now (log .entry)) (now (changes .entry)) (now (sessions .entry))) n row) ⌝ }
+    ensures { λ r. ⌜ seen
+        (tables (now (clock .exit)) (now (slots .exit)) (now (words .exit)) (now (heads .exit))
+        (now (log .exit)) (now (changes .exit)) (now (sessions .exit))) [] r ≡ told (readOf
+        (tables (now (clock .entry)) (now (slots .entry)) (now (words .entry)) (now (heads .entry))
+        (now (log .entry)) (now (changes .entry)) (now (sessions .entry))) n row) ⌝ }
 {
     let answer = index::read(clock, slots, words, heads, log, changes, sessions, n, row);
     numbers(answer)
@@ -123,7 +139,11 @@ pub extern "C" fn kv_update(
     row: u64,
     v: u64,
 ) -> KvAnswer
-    ensures { λ r. ⌜ seen (tables (now (clock .exit)) (now (slots .exit)) (now (words .exit)) (now (heads .exit)) (now (log .exit)) (now (changes .exit)) (now (sessions .exit))) [] r ≡ told (updateOf (tables (now (clock .entry)) (now (slots .entry)) (now (words .entry)) (now (heads .entry)) (now (log .entry)) (now (changes .entry)) (now (sessions .entry))) n row v) ⌝ }
+    ensures { λ r. ⌜ seen
+        (tables (now (clock .exit)) (now (slots .exit)) (now (words .exit)) (now (heads .exit))
+        (now (log .exit)) (now (changes .exit)) (now (sessions .exit))) [] r ≡ told (updateOf
+        (tables (now (clock .entry)) (now (slots .entry)) (now (words .entry)) (now (heads .entry))
+        (now (log .entry)) (now (changes .entry)) (now (sessions .entry))) n row v) ⌝ }
 {
     let answer = index::update(
         clock,
@@ -153,7 +173,11 @@ pub extern "C" fn kv_delete(
     n: u64,
     row: u64,
 ) -> KvAnswer
-    ensures { λ r. ⌜ seen (tables (now (clock .exit)) (now (slots .exit)) (now (words .exit)) (now (heads .exit)) (now (log .exit)) (now (changes .exit)) (now (sessions .exit))) [] r ≡ told (deleteOf (tables (now (clock .entry)) (now (slots .entry)) (now (words .entry)) (now (heads .entry)) (now (log .entry)) (now (changes .entry)) (now (sessions .entry))) n row) ⌝ }
+    ensures { λ r. ⌜ seen
+        (tables (now (clock .exit)) (now (slots .exit)) (now (words .exit)) (now (heads .exit))
+        (now (log .exit)) (now (changes .exit)) (now (sessions .exit))) [] r ≡ told (deleteOf
+        (tables (now (clock .entry)) (now (slots .entry)) (now (words .entry)) (now (heads .entry))
+        (now (log .entry)) (now (changes .entry)) (now (sessions .entry))) n row) ⌝ }
 {
     let answer = index::delete(clock, slots, words, heads, log, changes, sessions, n, row);
     numbers(answer)
@@ -172,7 +196,11 @@ pub extern "C" fn kv_insert(
     n: u64,
     v: u64,
 ) -> KvAnswer
-    ensures { λ r. ⌜ seen (tables (now (clock .exit)) (now (slots .exit)) (now (words .exit)) (now (heads .exit)) (now (log .exit)) (now (changes .exit)) (now (sessions .exit))) [] r ≡ told (insertOf (tables (now (clock .entry)) (now (slots .entry)) (now (words .entry)) (now (heads .entry)) (now (log .entry)) (now (changes .entry)) (now (sessions .entry))) n v) ⌝ }
+    ensures { λ r. ⌜ seen
+        (tables (now (clock .exit)) (now (slots .exit)) (now (words .exit)) (now (heads .exit))
+        (now (log .exit)) (now (changes .exit)) (now (sessions .exit))) [] r ≡ told (insertOf
+        (tables (now (clock .entry)) (now (slots .entry)) (now (words .entry)) (now (heads .entry))
+        (now (log .entry)) (now (changes .entry)) (now (sessions .entry))) n v) ⌝ }
 {
     let answer = index::insert(clock, slots, words, heads, log, changes, sessions, n, v);
     numbers(answer)
@@ -190,7 +218,11 @@ pub extern "C" fn kv_commit(
     sessions: &mut [Session],
     n: u64,
 ) -> KvAnswer
-    ensures { λ r. ⌜ seen (tables (now (clock .exit)) (now (slots .exit)) (now (words .exit)) (now (heads .exit)) (now (log .exit)) (now (changes .exit)) (now (sessions .exit))) [] r ≡ told (commitOf (tables (now (clock .entry)) (now (slots .entry)) (now (words .entry)) (now (heads .entry)) (now (log .entry)) (now (changes .entry)) (now (sessions .entry))) n) ⌝ }
+    ensures { λ r. ⌜ seen
+        (tables (now (clock .exit)) (now (slots .exit)) (now (words .exit)) (now (heads .exit))
+        (now (log .exit)) (now (changes .exit)) (now (sessions .exit))) [] r ≡ told (commitOf
+        (tables (now (clock .entry)) (now (slots .entry)) (now (words .entry)) (now (heads .entry))
+        (now (log .entry)) (now (changes .entry)) (now (sessions .entry))) n) ⌝ }
 {
     let answer = index::commit(clock, slots, words, heads, log, changes, sessions, n);
     numbers(answer)
@@ -209,7 +241,11 @@ pub extern "C" fn kv_tidy(
     n: u64,
     v: u64,
 ) -> KvAnswer
-    ensures { λ r. ⌜ seen (tables (now (clock .exit)) (now (slots .exit)) (now (words .exit)) (now (heads .exit)) (now (log .exit)) (now (changes .exit)) (now (sessions .exit))) [] r ≡ told (tidyOf (tables (now (clock .entry)) (now (slots .entry)) (now (words .entry)) (now (heads .entry)) (now (log .entry)) (now (changes .entry)) (now (sessions .entry))) n v) ⌝ }
+    ensures { λ r. ⌜ seen
+        (tables (now (clock .exit)) (now (slots .exit)) (now (words .exit)) (now (heads .exit))
+        (now (log .exit)) (now (changes .exit)) (now (sessions .exit))) [] r ≡ told (tidyOf
+        (tables (now (clock .entry)) (now (slots .entry)) (now (words .entry)) (now (heads .entry))
+        (now (log .entry)) (now (changes .entry)) (now (sessions .entry))) n v) ⌝ }
 {
     let answer = index::tidy(clock, slots, words, heads, log, changes, sessions, n, v);
     numbers(answer)
@@ -227,7 +263,11 @@ pub extern "C" fn kv_abort(
     sessions: &mut [Session],
     n: u64,
 ) -> KvAnswer
-    ensures { λ r. ⌜ seen (tables (now (clock .exit)) (now (slots .exit)) (now (words .exit)) (now (heads .exit)) (now (log .exit)) (now (changes .exit)) (now (sessions .exit))) [] r ≡ told (abortOf (tables (now (clock .entry)) (now (slots .entry)) (now (words .entry)) (now (heads .entry)) (now (log .entry)) (now (changes .entry)) (now (sessions .entry))) n) ⌝ }
+    ensures { λ r. ⌜ seen
+        (tables (now (clock .exit)) (now (slots .exit)) (now (words .exit)) (now (heads .exit))
+        (now (log .exit)) (now (changes .exit)) (now (sessions .exit))) [] r ≡ told (abortOf
+        (tables (now (clock .entry)) (now (slots .entry)) (now (words .entry)) (now (heads .entry))
+        (now (log .entry)) (now (changes .entry)) (now (sessions .entry))) n) ⌝ }
 {
     let answer = index::abort(clock, slots, words, heads, log, changes, sessions, n);
     numbers(answer)

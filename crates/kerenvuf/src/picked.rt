@@ -28,7 +28,8 @@ fn copy_to(part: &[u64], out: &mut [u64]) -> u32
     32
 }
 
-// The 32 words that a query's place names, copied to `out`: 32; or 0, and `out` as it was, where those words were not lent or `out` has fewer than 32.
+// The 32 words that a query's place names, copied to `out`: 32; or 0, and `out` as it was, where those words were not lent or `out` has
+// fewer than 32.
 #[no_mangle]
 pub extern "C" fn kv_picked<'a>(
     words: &'a [u64],

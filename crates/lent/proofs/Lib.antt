@@ -1,7 +1,6 @@
 -- The laws and the rules of the walks that belong to no one function.
 -- Assumes nothing.
 pub mod Data
-pub mod Kit
 pub mod Walks
 pub mod Rules
 pub mod Types
@@ -10,4 +9,6 @@ pub mod Locals
 pub mod Slices
 pub mod Lent
 pub mod Passes
+pub mod Flat
 pub mod Through
+pub mod Kit

@@ -2,14 +2,14 @@
 -- places are in use, and no other is read or written. Assumes nothing.
 use mathlib.Core.Path.{_≡_, refl, sym, _∙_, ap}
 use mathlib.Core.Bool.{Bool, true, false, not, cond, _&&_}
-use mathlib.Core.List.{List, [], _∷_}
-use mathlib.Core.Logic.{_⊎_, inl, inr, ⊎-elim}
+use mathlib.Core.List.{List}
+use mathlib.Core.Logic.{⊎-elim}
 use Prim.Native.Nat.{ℕ, zero, suc, _+_, _-_, _≤_, _<_}
 use native.Mathlib.Omega.{arith}
 use native.Mathlib.Numerals.{add-one}
 use borrow.Author.Tests.{lt-ltb, le-ltb}
 use lib.Dec.{T, ltb, nltb→le}
-use lib.ListN.{length, getD, set, replicate, length-set, List·getD-eq-default}
+use lib.ListN.{length, set, replicate, List·getD-eq-default}
 use lib.Seq.{sets, length-sets, set-out, set-getD, getD-set-same, getD-set-other}
 use mir.Facts.{and-yes, and-no}
 use Rattle.bits.specs.Cases.{eq-cases, lt-cases}
@@ -115,19 +115,6 @@ put-meant ts n false s = put-at-far ts 16 s (omega arith)
 pub put-at-again : (ts : List Session) (i : ℕ) → putAt ts i (sessionAt ts i) ≡ ts
 unfolding putAt
 put-at-again ts i = ap (λ (us : List Session). cond (ltb i 16) us ts) (set-getD ts i freed) ∙ same-both (ltb i 16) ts
-
-pub length-put-at : (ts : List Session) (i : ℕ) (s : Session) → length (putAt ts i s) ≡ length ts
-unfolding putAt
-length-put-at ts i s = go (ltb i 16)
-  where
-    go : (t : Bool) → length (cond t (set ts i s) ts) ≡ length ts
-    go true = length-set ts i s
-    go false = refl
-
-pub length-listed-back : (ts : List Session) (n : ℕ) (z : Bool) (s : Session) → length (listedBack ts n z s) ≡ length ts
-unfolding listedBack
-length-listed-back ts n true s = length-put-at ts n s
-length-listed-back ts n false s = refl
 
 pub length-freed-all : (ts : List Session) → length (freedAll ts) ≡ length ts
 unfolding freedAll

@@ -15,4 +15,3 @@ pub use sessions::open;
 pub use sessions::place;
 pub use sessions::places;
 pub use sessions::put;
-pub use sessions::put_at;

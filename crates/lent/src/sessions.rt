@@ -7,7 +7,8 @@ ghost use mathlib.Core.Path.{_≡_};
 ghost use mathlib.Core.Bool.{_&&_, cond};
 ghost use lib.Dec.{ltb};
 ghost use lib.ListN.{length};
-ghost use Rattle.lent.specs.Places.{seatAt, putAt, listedBack, openedAt, freedAt, allFreed};
+ghost use Rattle.damage.specs.Judged.{sessionJudged};
+ghost use Rattle.lent.specs.Places.{seatAt, listedBack, openedAt, freedAt, allFreed};
 ghost use Rattle.lent.specs.Seats.{allFit};
 
 // How many places the slice has.
@@ -28,20 +29,12 @@ fn within(i: usize, places: usize) -> bool
 pub fn place(t: &[Session], n: u64) -> Session
     ensures { λ r. ⌜ r ≡ seatAt (now (t .entry)) n ⌝ }
 {
+    let mut s = tables::free_session();
     let i = n as usize;
     if within(i, t.len()) {
-        return t[i];
+        s = t[i];
     }
-    tables::free_session()
-}
-
-// A session is put at place i; where i is no place, nothing changes.
-pub fn put_at(t: &mut [Session], s: Session, i: usize)
-    ensures { λ _. ⌜ now (t .exit) ≡ putAt (now (t .entry)) i s ⌝ }
-{
-    if within(i, t.len()) {
-        t[i] = s;
-    }
+    s
 }
 
 // The place that is meant: n, or none.
@@ -54,12 +47,14 @@ fn place_meant(n: u64, yes: bool) -> usize
     16
 }
 
-// A session is put at place n, where asked to.
+// A session is put at place n, where asked to; where n is no place, nothing changes.
 pub fn put(t: &mut [Session], n: u64, yes: bool, s: Session)
     ensures { λ _. ⌜ now (t .exit) ≡ listedBack (now (t .entry)) n yes s ⌝ }
 {
     let i = place_meant(n, yes);
-    put_at(t, s, i);
+    if within(i, t.len()) {
+        t[i] = s;
+    }
 }
 
 // The session at place n is opened, where asked to.
@@ -78,16 +73,6 @@ pub fn free(t: &mut [Session], n: u64, yes: bool)
     put(t, n, yes, s);
 }
 
-// How many places a loop goes through: all 16, or none.
-fn limit(yes: bool) -> usize
-    ensures { λ r. ⌜ r ≡ cond yes 16 0 ⌝ }
-{
-    if yes {
-        return 16;
-    }
-    0
-}
-
 // Every place is freed, where asked to.
 pub fn free_all(t: &mut [Session], yes: bool)
     ensures { λ _. ⌜ now (t .exit) ≡ allFreed (now (t .entry)) yes ⌝ }
@@ -99,6 +84,24 @@ pub fn free_all(t: &mut [Session], yes: bool)
     }
 }
 
+// How many places a loop goes through: all 16, or none.
+fn limit(yes: bool) -> u64
+    ensures { λ r. ⌜ r ≡ cond yes 16 0 ⌝ }
+{
+    if yes {
+        return 16;
+    }
+    0
+}
+
+// Whether a session fits, as all did before it.
+fn fits_too(log: &[u32], c: Clock, s: Session, ok: bool) -> bool
+    ensures { λ r. ⌜ r ≡ ok && sessionJudged s (now (log .entry)) c ⌝ }
+{
+    let fits = damage::session_fits(s, log, c);
+    ok & fits
+}
+
 // Whether there are 16 places, and every one fits.
 pub fn all_fit(t: &[Session], log: &[u32], c: Clock) -> bool
     ensures { λ r. ⌜ r ≡ allFit (now (t .entry)) (now (log .entry)) c ⌝ }
@@ -107,8 +110,8 @@ pub fn all_fit(t: &[Session], log: &[u32], c: Clock) -> bool
     let end = limit(ok);
     let mut i = 0;
     while i < end {
-        let fits = damage::session_fits(t[i], log, c);
-        ok = ok & fits;
+        let s = place(t, i);
+        ok = fits_too(log, c, s, ok);
         i += 1;
     }
     ok

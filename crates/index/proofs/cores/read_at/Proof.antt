@@ -6,43 +6,11 @@ use borrow.Author.Needs.{needs}
 use Rattle.index.proofs.cores.read_at.Statement.{statement}
 use Rattle.index.proofs.cores.read_at.Tie as tie
 
-row-of-requires : tie.Need-row-of-requires
-row-of-requires c κs = search needs
-
-read-in-requires : tie.Need-read-in-requires
-read-in-requires c κs = search needs
-
-same-length : tie.Need-same-length
-same-length c = search needs
-
-same-length-2 : tie.Need-same-length-2
-same-length-2 c = search needs
-
-same-length-3 : tie.Need-same-length-3
-same-length-3 c = search needs
-
-same-length-4 : tie.Need-same-length-4
-same-length-4 c = search needs
-
-same-length-5 : tie.Need-same-length-5
-same-length-5 c = search needs
-
-same-length-6 : tie.Need-same-length-6
-same-length-6 c = search needs
-
 returns : tie.Need-returns
-returns c = λ ts s. c .read-in .ensures ts s ∙ read-wide _ _ _ _ (c .before .before .before .before .before .before .before .row-of .ensures)
+returns c = λ ts s. c .read-in .ensures ts s
+    ∙ read-wide _ _ _ _ (c .before .before .before .before .before .before .before .row-of .ensures)
 
 pub read-at-spec : {M : Type 1} → statement M
 read-at-spec =
-    tie.close
-    (tie.spec
-    row-of-requires
-    read-in-requires
-    same-length
-    same-length-2
-    same-length-3
-    same-length-4
-    same-length-5
-    same-length-6
-    returns)
+    tie.close (tie.spec (λ c κs. search needs) (λ c κs. search needs) (λ c. search needs) (λ c. search needs) (λ c. search needs)
+    (λ c. search needs) (λ c. search needs) (λ c. search needs) returns)

@@ -1,9 +1,8 @@
 -- `begin` meets its contract: it is an instance of the walk of the outer calls, at `begin_at`.
 -- Assumes nothing.
-use Rattle.index.proofs.Calls.{seat, watched, the-answer, the-begun, on-tables, tabs, past, begins, opening, and-values, opened, Seats}
-use Rattle.index.proofs.Calls.{Opens, Comes-to, Serving, settles, outer, seat-name, seat-routine, seat-met}
-use Rattle.lent.proofs.open.Symbol.{name as end-name, routine as end-routine}
-use Rattle.lent.proofs.open.Met.{met as end-met}
+use Rattle.index.proofs.Calls.{seat, watched, the-answer, the-begun, on-tables, tabs, past, begins, opening, and-values}
+use Rattle.index.proofs.Calls.{opened, Seats, Opens, Comes-to, Serving, settles, outer, seat-name, seat-routine, seat-met}
+use Rattle.index.proofs.Calls.{open-name, open-routine, open-met}
 use Rattle.index.proofs.cores.begin_at.Symbol as core-def
 use Rattle.index.proofs.cores.begin_at.Met as core-thm
 use Rattle.index.proofs.outer.begin.Key.{name as #index·begin}
@@ -18,5 +17,5 @@ begin-spec 𝓤 H 𝓜 𝓖 𝓡 =
     (λ y s a e d b h c l. settles (tabs b) (begins .buffers (past b .1)) (d .answer) _ _ (past c .0) l (h (past y .0) e))
     𝓤 H 𝓜 𝓖 𝓡 code.env #index·begin (record { name = seat-name; routine = seat-routine; met = seat-met })
     (record { name = core-def.name; routine = core-def.routine; met = core-thm.met })
-    (record { name = end-name; routine = end-routine; met = end-met })
+    (record { name = open-name; routine = open-routine; met = open-met })
     (code.unfolded 𝓤 H 𝓜 𝓡) code.calls-lent·seat-of code.calls-index·cores·begin-at code.calls-lent·open

@@ -1,9 +1,8 @@
 -- `commit` meets its contract: it is an instance of the walk of the outer calls, at `commit_at`.
 -- Assumes nothing.
-use Rattle.index.proofs.Calls.{seat, watched, the-answer, the-freed, on-tables, tabs, past, commits, freeing, and-values, freed-up, Seats}
-use Rattle.index.proofs.Calls.{Frees, Comes-to, Serving, settles, outer, seat-name, seat-routine, seat-met}
-use Rattle.lent.proofs.free.Symbol.{name as end-name, routine as end-routine}
-use Rattle.lent.proofs.free.Met.{met as end-met}
+use Rattle.index.proofs.Calls.{seat, watched, the-answer, the-freed, on-tables, tabs, past, commits, freeing, and-values}
+use Rattle.index.proofs.Calls.{freed-up, Seats, Frees, Comes-to, Serving, settles, outer, seat-name, seat-routine, seat-met}
+use Rattle.index.proofs.Calls.{free-name, free-routine, free-met}
 use Rattle.index.proofs.cores.commit_at.Symbol as core-def
 use Rattle.index.proofs.cores.commit_at.Met as core-thm
 use Rattle.index.proofs.outer.commit.Key.{name as #index·commit}
@@ -18,5 +17,5 @@ commit-spec 𝓤 H 𝓜 𝓖 𝓡 =
     (λ y s a e d b h c l. settles (tabs b) (commits .buffers (past b .1)) (d .answer) _ _ (past c .0) l (h (past y .0) e))
     𝓤 H 𝓜 𝓖 𝓡 code.env #index·commit (record { name = seat-name; routine = seat-routine; met = seat-met })
     (record { name = core-def.name; routine = core-def.routine; met = core-thm.met })
-    (record { name = end-name; routine = end-routine; met = end-met })
+    (record { name = free-name; routine = free-routine; met = free-met })
     (code.unfolded 𝓤 H 𝓜 𝓡) code.calls-lent·seat-of code.calls-index·cores·commit-at code.calls-lent·free

@@ -1,9 +1,8 @@
 -- `delete` meets its contract: it is an instance of the walk of the outer calls, at `delete_at`.
 -- Assumes nothing.
-use Rattle.index.proofs.Calls.{seat, watched, the-answer, the-relisted, on-tables, tabs, past, deletes, relisting, and-values, put-back, Seats}
-use Rattle.index.proofs.Calls.{Puts, Comes-to, Serving, settles, outer, seat-name, seat-routine, seat-met}
-use Rattle.lent.proofs.put.Symbol.{name as end-name, routine as end-routine}
-use Rattle.lent.proofs.put.Met.{met as end-met}
+use Rattle.index.proofs.Calls.{seat, watched, the-answer, the-relisted, on-tables, tabs, past, deletes, relisting, and-values}
+use Rattle.index.proofs.Calls.{put-back, Seats, Puts, Comes-to, Serving, settles, outer, seat-name, seat-routine, seat-met}
+use Rattle.index.proofs.Calls.{put-name, put-routine, put-met}
 use Rattle.index.proofs.cores.delete_at.Symbol as core-def
 use Rattle.index.proofs.cores.delete_at.Met as core-thm
 use Rattle.index.proofs.outer.delete.Key.{name as #index·delete}
@@ -18,5 +17,5 @@ delete-spec 𝓤 H 𝓜 𝓖 𝓡 =
     (λ y s a e d b h c l. settles (tabs b) (deletes .buffers (past b .1)) (d .answer) _ _ (past c .0) l (h (past y .0) e))
     𝓤 H 𝓜 𝓖 𝓡 code.env #index·delete (record { name = seat-name; routine = seat-routine; met = seat-met })
     (record { name = core-def.name; routine = core-def.routine; met = core-thm.met })
-    (record { name = end-name; routine = end-routine; met = end-met })
+    (record { name = put-name; routine = put-routine; met = put-met })
     (code.unfolded 𝓤 H 𝓜 𝓡) code.calls-lent·seat-of code.calls-index·cores·delete-at code.calls-lent·put

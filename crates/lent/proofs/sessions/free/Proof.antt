@@ -1,18 +1,9 @@
 -- `lent::free` meets its contract: `free_session` makes the session, and `put` puts it there.
 -- Assumes nothing.
-use mathlib.Core.Path.{_≡_, _∙_, ap}
-use mathlib.Core.Bool.{true, false}
-use mathlib.Core.List.{List, [], _∷_}
-use mir.Syntax.{w64}
-use Rattle.tables.specs.declared.session.Session.{Session}
+use Rattle.lent.proofs.Kit.{_≡_, _∙_, ap, false, List, [], _∷_, w64, number, flag, nil, session, Param, kept, lent, given, Says}
+use Rattle.lent.proofs.Kit.{view, asked, others, Gives-made, made}
 use Rattle.tables.specs.Sessions.{freed}
 use Rattle.lent.specs.Places.{listedBack, freedAt}
-use Rattle.lent.proofs.Data.{Data, number, flag, nil}
-use Rattle.lent.proofs.Types.{session}
-use Rattle.lent.proofs.Slices.{Param, kept, lent, given}
-use Rattle.lent.proofs.Lent.{Says}
-use Rattle.lent.proofs.Passes.{view}
-use Rattle.lent.proofs.Through.{asked, others, Gives-made, made}
 use Rattle.tables.proofs.free_session.Symbol as made-def
 use Rattle.tables.proofs.free_session.Met as made-thm
 use Rattle.lent.proofs.sessions.put.Symbol as put-def
