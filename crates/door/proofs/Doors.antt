@@ -48,8 +48,8 @@ use Rattle.lent.proofs.Through.{all}
 use Rattle.door.specs.declared.Sessions.{Sessions}
 use Rattle.door.proofs.Sessions as S
 use Rattle.door.proofs.Sessions.Laws as SL
-use Rattle.door.proofs.Held as H
-use Rattle.door.proofs.Held.Laws as HL
+use Rattle.door.proofs.Whole as H
+use Rattle.door.proofs.Whole.Laws as HL
 use Rattle.door.proofs.Arrays.{Arr16, out-of-field}
 
 abbrev pub the-sessions : Data

@@ -51,7 +51,7 @@ use Rattle.lent.proofs.Lent.{Says, ending, clauses, Meets, Callee, knows, typed
 use Rattle.index.proofs.Calls.{the-answer}
 use Rattle.calls.specs.declared.answers.Answer.{Answer}
 use Rattle.door.specs.declared.Sessions.{Sessions}
-use Rattle.door.specs.declared.Held.{Held as Answered}
+use Rattle.door.specs.declared.Whole.{Whole as Answered}
 use Rattle.door.proofs.Arrays.{Arr16, in-field, array-out, array-back}
 use Rattle.door.proofs.Doors.{the-sessions, the-held, array-ty, array-val, at-of, as-array, sixteen, same, Door, reals, tos}
 use Rattle.door.proofs.Doors.{temps, codes, operands, args, nexts, Lent-out, through, doors, held, got}
