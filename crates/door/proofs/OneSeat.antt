@@ -8,13 +8,12 @@ use mathlib.Core.Path.{_≡_, refl, sym, ap, subst, _∙_}
 use mathlib.Core.Bool.{Bool, true, false, cond}
 use mathlib.Core.Option.{Option, none, some, Option·some-ne-none}
 use mathlib.Core.Logic.{⊎-elim}
-use mathlib.Core.List.{List, [], _∷_, _++_, map}
-use native.Mathlib.Omega.{arith}
-use Prim.Native.Nat.{ℕ, zero, suc, _<_, _≤_, _+_, _*_}
+use mathlib.Core.List.{List, [], _∷_, _++_}
+use Prim.Native.Nat.{ℕ, _<_, _≤_, _+_, _*_}
 use lib.Dec.{eqb, ltb}
-use lib.ListN.{length, length-map, getD, set}
+use lib.ListN.{length, set}
 use lib.Seq.{set-out, set-getD, getD-set-same}
-use borrow.Author.Tests.{lt-ltb, le-ltb, leb-false}
+use borrow.Author.Tests.{lt-ltb, leb-false}
 use Rattle.bits.specs.Cases.{lt-cases}
 use Rattle.rules.specs.Calls.{Call, create, begin, query, read, update, delete, insert, commit, tidy, abort}
 use Rattle.rules.specs.Refusals.{Test, firstOf, noSession, tests}
@@ -75,6 +74,14 @@ oneSeat ts n o = putAt ts n (seatAt (o .after .sessions) n)
 
 abbrev pub allSeats : List Session → Outcome → List Session
 allSeats ts o = allFreed ts (accepts (o .answer))
+
+-- that session, however it came about
+pub back : (clock slots words heads log changes : List ℕ) (us ts : List Session) (bs : List (List ℕ)) (a : Said) (n : ℕ)
+    (s : Session) (o : Outcome) → Makes (oneSeat ts n) o → outcome (tables clock slots words heads log changes us) bs a ≡ o → s ≡ seatAt us n
+    → outcome (tables clock slots words heads log changes (putAt ts n s)) bs a ≡ o
+back clock slots words heads log changes us ts bs a n s o m h e =
+    ap (λ (x : Session). outcome (tables clock slots words heads log changes (putAt ts n x)) bs a) e
+    ∙ told clock slots words heads log changes us bs a o (oneSeat ts n) m h
 
 -- ---- a call whose first test is that of its session's number
 module _ (t : Tables) (n : ℕ) where
@@ -163,25 +170,3 @@ create-frees t c col = go (refusalOfCreate t (create c (columnOf col)))
     go : (w : Option ℕ) → Makes (allSeats (t .sessions)) (unless w t [] (outcome (createdTables t c col) [] (numbers (length col ∷ []))))
     go none = refl
     go (some k) = refl
-
--- ---- what the covered functions ask
-pub back : (clock slots words heads log changes : List ℕ) (us ts : List Session) (bs : List (List ℕ)) (a : Said) (n : ℕ) (s : Session) (o : Outcome)
-    → Makes (oneSeat ts n) o → outcome (tables clock slots words heads log changes us) bs a ≡ o → s ≡ seatAt us n
-    → outcome (tables clock slots words heads log changes (putAt ts n s)) bs a ≡ o
-back clock slots words heads log changes us ts bs a n s o m h e =
-    ap (λ (x : Session). outcome (tables clock slots words heads log changes (putAt ts n x)) bs a) e
-    ∙ told clock slots words heads log changes us bs a o (oneSeat ts n) m h
-
-any-default : (ts : List Session) (n : ℕ) (x y : Session) → n < length ts → getD ts n x ≡ getD ts n y
-any-default [] n x y l = absurd (omega (arith, l))
-any-default (s ∷ ts) zero x y l = refl
-any-default (s ∷ ts) (suc n) x y l = any-default ts n x y (omega (arith, l))
-
-pub seat-near : (ts : List Session) (n : ℕ) (x : Session) (B : Type 0) (f : Session → B) → n < 16 → length (map f ts) ≡ 16
-    → getD ts n x ≡ seatAt ts n
-unfolding seatAt
-seat-near ts n x B f l h = any-default ts n x freed (omega (arith, l, sym (length-map ts f) ∙ h)) ∙ rw (lt-ltb n 16 l)
-
-pub seat-far : (ts : List Session) (n : ℕ) (s : Session) → 16 ≤ n → s ≡ freed → s ≡ seatAt ts n
-unfolding seatAt
-seat-far ts n s l e = rw (le-ltb n 16 l) e

@@ -5,7 +5,7 @@ use tables::Session;
 ghost use mathlib.Core.Path.{_≡_};
 ghost use mathlib.Core.List.{[], _∷_};
 ghost use Rattle.tables.specs.Cells.{tables};
-ghost use Rattle.lent.specs.Places.{seatAt, putAt, allFreed};
+ghost use Rattle.lent.specs.Places.{putAt, allFreed};
 ghost use Rattle.calls.specs.Said.{said};
 ghost use Rattle.calls.specs.Outcome.{outcome};
 ghost use Rattle.calls.specs.Calls.{createOf, beginOf, readOf, updateOf, deleteOf, insertOf, commitOf, tidyOf, abortOf};
@@ -21,23 +21,6 @@ pub struct Sessions {
 pub struct Held {
     pub answer: Answer,
     pub session: Session,
-}
-
-// A call's answer, and the session table afterwards.
-struct Whole {
-    answer: Answer,
-    at: [Session; 16],
-}
-
-// The session at place n; a free one where n is no place.
-fn seat(d: Whole, n: u64) -> Session
-    ensures { λ r. ⌜ r ≡ seatAt (d .at) n ⌝ }
-{
-    let i = n as usize;
-    if i < 16 {
-        return d.at[i];
-    }
-    tables::free_session()
 }
 
 // Create, of sessions that are held.
@@ -58,8 +41,8 @@ pub fn create_held(
         (tables (now (clock .entry)) (now (slots .entry)) (now (words .entry)) (now (heads .entry))
         (now (log .entry)) (now (changes .entry)) (all .at)) c (now (column .entry)) ⌝ }
 {
-    let d = create_whole(clock, slots, words, heads, log, changes, all, c, column);
-    d.answer
+    let mut at = all.at;
+    index::create(clock, slots, words, heads, log, changes, &mut at, c, column)
 }
 
 // Begin, of sessions that are held.
@@ -79,9 +62,9 @@ pub fn begin_held(
         (tables (now (clock .entry)) (now (slots .entry)) (now (words .entry)) (now (heads .entry))
         (now (log .entry)) (now (changes .entry)) (all .at)) n ⌝ }
 {
-    let d = begin_whole(clock, slots, words, heads, log, changes, all, n);
-    let answer = d.answer;
-    let session = seat(d, n);
+    let mut at = all.at;
+    let answer = index::begin(clock, slots, words, heads, log, changes, &mut at, n);
+    let session = lent::place(&at, n);
     Held {
         answer: answer,
         session: session,
@@ -109,21 +92,21 @@ pub fn query_held(
         (tables (now (clock .entry)) (now (slots .entry)) (now (words .entry)) (now (heads .entry))
         (now (log .entry)) (now (changes .entry)) (all .at)) (now (scratch .entry)) n v threshold ⌝ }
 {
-    let d = query_whole(
+    let mut at = all.at;
+    let answer = index::query(
         clock,
         slots,
         words,
         heads,
         log,
         changes,
-        all,
+        &mut at,
         scratch,
         n,
         v,
         threshold,
     );
-    let answer = d.answer;
-    let session = seat(d, n);
+    let session = lent::place(&at, n);
     Held {
         answer: answer,
         session: session,
@@ -148,9 +131,9 @@ pub fn read_held(
         (tables (now (clock .entry)) (now (slots .entry)) (now (words .entry)) (now (heads .entry))
         (now (log .entry)) (now (changes .entry)) (all .at)) n row ⌝ }
 {
-    let d = read_whole(clock, slots, words, heads, log, changes, all, n, row);
-    let answer = d.answer;
-    let session = seat(d, n);
+    let mut at = all.at;
+    let answer = index::read(clock, slots, words, heads, log, changes, &mut at, n, row);
+    let session = lent::place(&at, n);
     Held {
         answer: answer,
         session: session,
@@ -176,9 +159,9 @@ pub fn update_held(
         (tables (now (clock .entry)) (now (slots .entry)) (now (words .entry)) (now (heads .entry))
         (now (log .entry)) (now (changes .entry)) (all .at)) n row v ⌝ }
 {
-    let d = update_whole(clock, slots, words, heads, log, changes, all, n, row, v);
-    let answer = d.answer;
-    let session = seat(d, n);
+    let mut at = all.at;
+    let answer = index::update(clock, slots, words, heads, log, changes, &mut at, n, row, v);
+    let session = lent::place(&at, n);
     Held {
         answer: answer,
         session: session,
@@ -203,9 +186,9 @@ pub fn delete_held(
         (tables (now (clock .entry)) (now (slots .entry)) (now (words .entry)) (now (heads .entry))
         (now (log .entry)) (now (changes .entry)) (all .at)) n row ⌝ }
 {
-    let d = delete_whole(clock, slots, words, heads, log, changes, all, n, row);
-    let answer = d.answer;
-    let session = seat(d, n);
+    let mut at = all.at;
+    let answer = index::delete(clock, slots, words, heads, log, changes, &mut at, n, row);
+    let session = lent::place(&at, n);
     Held {
         answer: answer,
         session: session,
@@ -230,9 +213,9 @@ pub fn insert_held(
         (tables (now (clock .entry)) (now (slots .entry)) (now (words .entry)) (now (heads .entry))
         (now (log .entry)) (now (changes .entry)) (all .at)) n v ⌝ }
 {
-    let d = insert_whole(clock, slots, words, heads, log, changes, all, n, v);
-    let answer = d.answer;
-    let session = seat(d, n);
+    let mut at = all.at;
+    let answer = index::insert(clock, slots, words, heads, log, changes, &mut at, n, v);
+    let session = lent::place(&at, n);
     Held {
         answer: answer,
         session: session,
@@ -256,9 +239,9 @@ pub fn commit_held(
         (tables (now (clock .entry)) (now (slots .entry)) (now (words .entry)) (now (heads .entry))
         (now (log .entry)) (now (changes .entry)) (all .at)) n ⌝ }
 {
-    let d = commit_whole(clock, slots, words, heads, log, changes, all, n);
-    let answer = d.answer;
-    let session = seat(d, n);
+    let mut at = all.at;
+    let answer = index::commit(clock, slots, words, heads, log, changes, &mut at, n);
+    let session = lent::place(&at, n);
     Held {
         answer: answer,
         session: session,
@@ -283,9 +266,9 @@ pub fn tidy_held(
         (tables (now (clock .entry)) (now (slots .entry)) (now (words .entry)) (now (heads .entry))
         (now (log .entry)) (now (changes .entry)) (all .at)) n v ⌝ }
 {
-    let d = tidy_whole(clock, slots, words, heads, log, changes, all, n, v);
-    let answer = d.answer;
-    let session = seat(d, n);
+    let mut at = all.at;
+    let answer = index::tidy(clock, slots, words, heads, log, changes, &mut at, n, v);
+    let session = lent::place(&at, n);
     Held {
         answer: answer,
         session: session,
@@ -309,283 +292,11 @@ pub fn abort_held(
         (tables (now (clock .entry)) (now (slots .entry)) (now (words .entry)) (now (heads .entry))
         (now (log .entry)) (now (changes .entry)) (all .at)) n ⌝ }
 {
-    let d = abort_whole(clock, slots, words, heads, log, changes, all, n);
-    let answer = d.answer;
-    let session = seat(d, n);
+    let mut at = all.at;
+    let answer = index::abort(clock, slots, words, heads, log, changes, &mut at, n);
+    let session = lent::place(&at, n);
     Held {
         answer: answer,
         session: session,
-    }
-}
-
-// Create, of sessions that are held, all of which are handed back.
-fn create_whole(
-    clock: &mut [u32],
-    slots: &mut [u32],
-    words: &mut [u64],
-    heads: &mut [u32],
-    log: &mut [u32],
-    changes: &mut [u32],
-    all: Sessions,
-    c: u64,
-    column: &[u8],
-) -> Whole
-    ensures { λ r. ⌜ outcome
-        (tables (now (clock .exit)) (now (slots .exit)) (now (words .exit)) (now (heads .exit))
-        (now (log .exit)) (now (changes .exit)) (r .at)) [] (said (r .answer)) ≡ createOf
-        (tables (now (clock .entry)) (now (slots .entry)) (now (words .entry)) (now (heads .entry))
-        (now (log .entry)) (now (changes .entry)) (all .at)) c (now (column .entry)) ⌝ }
-{
-    let mut at = all.at;
-    let answer = index::create(clock, slots, words, heads, log, changes, &mut at, c, column);
-    Whole {
-        answer: answer,
-        at: at,
-    }
-}
-
-// Begin, of sessions that are held, all of which are handed back.
-fn begin_whole(
-    clock: &mut [u32],
-    slots: &mut [u32],
-    words: &mut [u64],
-    heads: &mut [u32],
-    log: &mut [u32],
-    changes: &mut [u32],
-    all: Sessions,
-    n: u64,
-) -> Whole
-    ensures { λ r. ⌜ outcome
-        (tables (now (clock .exit)) (now (slots .exit)) (now (words .exit)) (now (heads .exit))
-        (now (log .exit)) (now (changes .exit)) (r .at)) [] (said (r .answer)) ≡ beginOf
-        (tables (now (clock .entry)) (now (slots .entry)) (now (words .entry)) (now (heads .entry))
-        (now (log .entry)) (now (changes .entry)) (all .at)) n ⌝ }
-{
-    let mut at = all.at;
-    let answer = index::begin(clock, slots, words, heads, log, changes, &mut at, n);
-    Whole {
-        answer: answer,
-        at: at,
-    }
-}
-
-// Query, of sessions that are held, all of which are handed back.
-fn query_whole(
-    clock: &mut [u32],
-    slots: &mut [u32],
-    words: &mut [u64],
-    heads: &mut [u32],
-    log: &mut [u32],
-    changes: &mut [u32],
-    all: Sessions,
-    scratch: &mut [u64],
-    n: u64,
-    v: u64,
-    threshold: u64,
-) -> Whole
-    ensures { λ r. ⌜ outcome
-        (tables (now (clock .exit)) (now (slots .exit)) (now (words .exit)) (now (heads .exit))
-        (now (log .exit)) (now (changes .exit)) (r .at)) (now (scratch .exit) ∷ []) (said (r .answer)) ≡ queryOf
-        (tables (now (clock .entry)) (now (slots .entry)) (now (words .entry)) (now (heads .entry))
-        (now (log .entry)) (now (changes .entry)) (all .at)) (now (scratch .entry)) n v threshold ⌝ }
-{
-    let mut at = all.at;
-    let answer = index::query(
-        clock,
-        slots,
-        words,
-        heads,
-        log,
-        changes,
-        &mut at,
-        scratch,
-        n,
-        v,
-        threshold,
-    );
-    Whole {
-        answer: answer,
-        at: at,
-    }
-}
-
-// Read, of sessions that are held, all of which are handed back.
-fn read_whole(
-    clock: &mut [u32],
-    slots: &mut [u32],
-    words: &mut [u64],
-    heads: &mut [u32],
-    log: &mut [u32],
-    changes: &mut [u32],
-    all: Sessions,
-    n: u64,
-    row: u64,
-) -> Whole
-    ensures { λ r. ⌜ outcome
-        (tables (now (clock .exit)) (now (slots .exit)) (now (words .exit)) (now (heads .exit))
-        (now (log .exit)) (now (changes .exit)) (r .at)) [] (said (r .answer)) ≡ readOf
-        (tables (now (clock .entry)) (now (slots .entry)) (now (words .entry)) (now (heads .entry))
-        (now (log .entry)) (now (changes .entry)) (all .at)) n row ⌝ }
-{
-    let mut at = all.at;
-    let answer = index::read(clock, slots, words, heads, log, changes, &mut at, n, row);
-    Whole {
-        answer: answer,
-        at: at,
-    }
-}
-
-// Update, of sessions that are held, all of which are handed back.
-fn update_whole(
-    clock: &mut [u32],
-    slots: &mut [u32],
-    words: &mut [u64],
-    heads: &mut [u32],
-    log: &mut [u32],
-    changes: &mut [u32],
-    all: Sessions,
-    n: u64,
-    row: u64,
-    v: u64,
-) -> Whole
-    ensures { λ r. ⌜ outcome
-        (tables (now (clock .exit)) (now (slots .exit)) (now (words .exit)) (now (heads .exit))
-        (now (log .exit)) (now (changes .exit)) (r .at)) [] (said (r .answer)) ≡ updateOf
-        (tables (now (clock .entry)) (now (slots .entry)) (now (words .entry)) (now (heads .entry))
-        (now (log .entry)) (now (changes .entry)) (all .at)) n row v ⌝ }
-{
-    let mut at = all.at;
-    let answer = index::update(clock, slots, words, heads, log, changes, &mut at, n, row, v);
-    Whole {
-        answer: answer,
-        at: at,
-    }
-}
-
-// Delete, of sessions that are held, all of which are handed back.
-fn delete_whole(
-    clock: &mut [u32],
-    slots: &mut [u32],
-    words: &mut [u64],
-    heads: &mut [u32],
-    log: &mut [u32],
-    changes: &mut [u32],
-    all: Sessions,
-    n: u64,
-    row: u64,
-) -> Whole
-    ensures { λ r. ⌜ outcome
-        (tables (now (clock .exit)) (now (slots .exit)) (now (words .exit)) (now (heads .exit))
-        (now (log .exit)) (now (changes .exit)) (r .at)) [] (said (r .answer)) ≡ deleteOf
-        (tables (now (clock .entry)) (now (slots .entry)) (now (words .entry)) (now (heads .entry))
-        (now (log .entry)) (now (changes .entry)) (all .at)) n row ⌝ }
-{
-    let mut at = all.at;
-    let answer = index::delete(clock, slots, words, heads, log, changes, &mut at, n, row);
-    Whole {
-        answer: answer,
-        at: at,
-    }
-}
-
-// Insert, of sessions that are held, all of which are handed back.
-fn insert_whole(
-    clock: &mut [u32],
-    slots: &mut [u32],
-    words: &mut [u64],
-    heads: &mut [u32],
-    log: &mut [u32],
-    changes: &mut [u32],
-    all: Sessions,
-    n: u64,
-    v: u64,
-) -> Whole
-    ensures { λ r. ⌜ outcome
-        (tables (now (clock .exit)) (now (slots .exit)) (now (words .exit)) (now (heads .exit))
-        (now (log .exit)) (now (changes .exit)) (r .at)) [] (said (r .answer)) ≡ insertOf
-        (tables (now (clock .entry)) (now (slots .entry)) (now (words .entry)) (now (heads .entry))
-        (now (log .entry)) (now (changes .entry)) (all .at)) n v ⌝ }
-{
-    let mut at = all.at;
-    let answer = index::insert(clock, slots, words, heads, log, changes, &mut at, n, v);
-    Whole {
-        answer: answer,
-        at: at,
-    }
-}
-
-// Commit, of sessions that are held, all of which are handed back.
-fn commit_whole(
-    clock: &mut [u32],
-    slots: &mut [u32],
-    words: &mut [u64],
-    heads: &mut [u32],
-    log: &mut [u32],
-    changes: &mut [u32],
-    all: Sessions,
-    n: u64,
-) -> Whole
-    ensures { λ r. ⌜ outcome
-        (tables (now (clock .exit)) (now (slots .exit)) (now (words .exit)) (now (heads .exit))
-        (now (log .exit)) (now (changes .exit)) (r .at)) [] (said (r .answer)) ≡ commitOf
-        (tables (now (clock .entry)) (now (slots .entry)) (now (words .entry)) (now (heads .entry))
-        (now (log .entry)) (now (changes .entry)) (all .at)) n ⌝ }
-{
-    let mut at = all.at;
-    let answer = index::commit(clock, slots, words, heads, log, changes, &mut at, n);
-    Whole {
-        answer: answer,
-        at: at,
-    }
-}
-
-// Tidy, of sessions that are held, all of which are handed back.
-fn tidy_whole(
-    clock: &mut [u32],
-    slots: &mut [u32],
-    words: &mut [u64],
-    heads: &mut [u32],
-    log: &mut [u32],
-    changes: &mut [u32],
-    all: Sessions,
-    n: u64,
-    v: u64,
-) -> Whole
-    ensures { λ r. ⌜ outcome
-        (tables (now (clock .exit)) (now (slots .exit)) (now (words .exit)) (now (heads .exit))
-        (now (log .exit)) (now (changes .exit)) (r .at)) [] (said (r .answer)) ≡ tidyOf
-        (tables (now (clock .entry)) (now (slots .entry)) (now (words .entry)) (now (heads .entry))
-        (now (log .entry)) (now (changes .entry)) (all .at)) n v ⌝ }
-{
-    let mut at = all.at;
-    let answer = index::tidy(clock, slots, words, heads, log, changes, &mut at, n, v);
-    Whole {
-        answer: answer,
-        at: at,
-    }
-}
-
-// Abort, of sessions that are held, all of which are handed back.
-fn abort_whole(
-    clock: &mut [u32],
-    slots: &mut [u32],
-    words: &mut [u64],
-    heads: &mut [u32],
-    log: &mut [u32],
-    changes: &mut [u32],
-    all: Sessions,
-    n: u64,
-) -> Whole
-    ensures { λ r. ⌜ outcome
-        (tables (now (clock .exit)) (now (slots .exit)) (now (words .exit)) (now (heads .exit))
-        (now (log .exit)) (now (changes .exit)) (r .at)) [] (said (r .answer)) ≡ abortOf
-        (tables (now (clock .entry)) (now (slots .entry)) (now (words .entry)) (now (heads .entry))
-        (now (log .entry)) (now (changes .entry)) (all .at)) n ⌝ }
-{
-    let mut at = all.at;
-    let answer = index::abort(clock, slots, words, heads, log, changes, &mut at, n);
-    Whole {
-        answer: answer,
-        at: at,
     }
 }

@@ -1,51 +1,18 @@
--- `begin_held` meets its contract: what `begin_whole` leaves, told with the one session.
+-- `begin_held` meets its contract: it is an instance of the walk of the doors, at the index's `begin`.
 -- Assumes nothing.
-use borrow.Author.Needs.{needs}
-use Rattle.door.proofs.OneSeat.{back, begin-moves}
-use Rattle.door.proofs.begin_held.Statement.{statement}
-use Rattle.door.proofs.begin_held.Tie as tie
-use Rattle.door.proofs.begin_held.Reads as reads
-use Rattle.door.proofs.begin_held.Lts as lts
-use Rattle.door.proofs.begin_whole.Reads as begin-whole-reads
-use Rattle.door.proofs.seat.Reads as seat-reads
+use Rattle.door.proofs.Calls.{held-call, tables-in-front, here, Comes-to, unseen, Held-to, back, place-called}
+use Rattle.door.proofs.OneSeat.{begin-moves}
+use Rattle.index.proofs.Calls.{begins}
+use Rattle.index.proofs.begin.Symbol as call-def
+use Rattle.index.proofs.begin.Met as call-thm
+use Rattle.door.proofs.begin_held.Key.{name as #door·begin-held}
+use Rattle.door.proofs.begin_held.Statement as stated
+use Rattle.door.proofs.begin_held.Code as code
 
-begin-whole-requires : tie.Need-begin-whole-requires
-begin-whole-requires c κs = search needs
-
-seat-requires : tie.Need-seat-requires
-seat-requires c κs = search needs
-
-same-length : tie.Need-same-length
-same-length c = search needs
-
-same-length-2 : tie.Need-same-length-2
-same-length-2 c = search needs
-
-same-length-3 : tie.Need-same-length-3
-same-length-3 c = search needs
-
-same-length-4 : tie.Need-same-length-4
-same-length-4 c = search needs
-
-same-length-5 : tie.Need-same-length-5
-same-length-5 c = search needs
-
-same-length-6 : tie.Need-same-length-6
-same-length-6 c = search needs
-
-returns : tie.Need-returns
-returns c = back _ _ _ _ _ _ _ _ _ _ _ _ _ (begin-moves _ _) (c .before .before .before .before .before .before .before .before .before .before .before .before .before .begin-whole .ensures) (c .seat .ensures)
-
-pub begin-held-spec : {M : Type 1} → statement M
-begin-held-spec =
-    tie.close
-    (tie.spec
-    begin-whole-requires
-    seat-requires
-    same-length
-    same-length-2
-    same-length-3
-    same-length-4
-    same-length-5
-    same-length-6
-    returns)
+pub begin-held-spec : {M : Type 1} → stated.statement M
+unfolding code.routine
+begin-held-spec 𝓤 H 𝓜 𝓖 𝓡 =
+    held-call tables-in-front (begins .more) here (Comes-to unseen begins) (Held-to begins)
+    (λ y d z h x e. back _ _ _ _ _ _ _ _ _ _ _ _ _ (begin-moves _ _) h e)
+    𝓤 H 𝓜 𝓖 𝓡 code.env #door·begin-held (record { name = call-def.name; routine = call-def.routine; met = call-thm.met }) place-called
+    (code.unfolded 𝓤 H 𝓜 𝓡) code.calls-index·begin code.calls-lent·place

@@ -1,46 +1,18 @@
--- `create_held` meets its contract: what `create_whole` leaves, told with every place freed, or none.
+-- `create_held` meets its contract: it is an instance of the walk of the doors, at the index's `create`.
 -- Assumes nothing.
-use borrow.Author.Needs.{needs}
-use Rattle.door.proofs.OneSeat.{told, allSeats, create-frees}
-use Rattle.door.proofs.create_held.Statement.{statement}
-use Rattle.door.proofs.create_held.Tie as tie
-use Rattle.door.proofs.create_held.Reads as reads
-use Rattle.door.proofs.create_held.Lts as lts
-use Rattle.door.proofs.create_whole.Reads as create-whole-reads
+use Rattle.door.proofs.Calls.{only-call, tables-in-front, Comes-to, unseen, Created, told, allSeats}
+use Rattle.door.proofs.OneSeat.{create-frees}
+use Rattle.index.proofs.Calls.{creates}
+use Rattle.index.proofs.create.Symbol as call-def
+use Rattle.index.proofs.create.Met as call-thm
+use Rattle.door.proofs.create_held.Key.{name as #door·create-held}
+use Rattle.door.proofs.create_held.Statement as stated
+use Rattle.door.proofs.create_held.Code as code
 
-create-whole-requires : tie.Need-create-whole-requires
-create-whole-requires c κs = search needs
-
-same-length : tie.Need-same-length
-same-length c = search needs
-
-same-length-2 : tie.Need-same-length-2
-same-length-2 c = search needs
-
-same-length-3 : tie.Need-same-length-3
-same-length-3 c = search needs
-
-same-length-4 : tie.Need-same-length-4
-same-length-4 c = search needs
-
-same-length-5 : tie.Need-same-length-5
-same-length-5 c = search needs
-
-same-length-6 : tie.Need-same-length-6
-same-length-6 c = search needs
-
-returns : tie.Need-returns
-returns c = told _ _ _ _ _ _ _ _ _ _ (allSeats _) (create-frees _ _ _) (c .before .before .before .before .before .before .before .before .before .before .before .before .create-whole .ensures)
-
-pub create-held-spec : {M : Type 1} → statement M
-create-held-spec =
-    tie.close
-    (tie.spec
-    create-whole-requires
-    same-length
-    same-length-2
-    same-length-3
-    same-length-4
-    same-length-5
-    same-length-6
-    returns)
+pub create-held-spec : {M : Type 1} → stated.statement M
+unfolding code.routine
+create-held-spec 𝓤 H 𝓜 𝓖 𝓡 =
+    only-call tables-in-front (creates .more) (Comes-to unseen creates) Created
+    (λ y d z h. told _ _ _ _ _ _ _ _ _ _ (allSeats _) (create-frees _ _ _) h)
+    𝓤 H 𝓜 𝓖 𝓡 code.env #door·create-held (record { name = call-def.name; routine = call-def.routine; met = call-thm.met })
+    (code.unfolded 𝓤 H 𝓜 𝓡) code.calls-index·create

@@ -1,55 +1,18 @@
--- `query_held` meets its contract: what `query_whole` leaves, told with the one session.
+-- `query_held` meets its contract: it is an instance of the walk of the doors, at the index's `query`.
 -- Assumes nothing.
-use borrow.Author.Needs.{needs}
-use Rattle.door.proofs.OneSeat.{back, query-moves}
-use Rattle.door.proofs.query_held.Statement.{statement}
-use Rattle.door.proofs.query_held.Tie as tie
-use Rattle.door.proofs.query_held.Reads as reads
-use Rattle.door.proofs.query_held.Lts as lts
-use Rattle.door.proofs.query_whole.Reads as query-whole-reads
-use Rattle.door.proofs.seat.Reads as seat-reads
+use Rattle.door.proofs.Calls.{held-call, tables-in-front, here, next-to, Comes-to, unseen, Held-to, back, place-called}
+use Rattle.door.proofs.OneSeat.{query-moves}
+use Rattle.index.proofs.Calls.{asks}
+use Rattle.index.proofs.query.Symbol as call-def
+use Rattle.index.proofs.query.Met as call-thm
+use Rattle.door.proofs.query_held.Key.{name as #door·query-held}
+use Rattle.door.proofs.query_held.Statement as stated
+use Rattle.door.proofs.query_held.Code as code
 
-query-whole-requires : tie.Need-query-whole-requires
-query-whole-requires c κs = search needs
-
-seat-requires : tie.Need-seat-requires
-seat-requires c κs = search needs
-
-same-length : tie.Need-same-length
-same-length c = search needs
-
-same-length-2 : tie.Need-same-length-2
-same-length-2 c = search needs
-
-same-length-3 : tie.Need-same-length-3
-same-length-3 c = search needs
-
-same-length-4 : tie.Need-same-length-4
-same-length-4 c = search needs
-
-same-length-5 : tie.Need-same-length-5
-same-length-5 c = search needs
-
-same-length-6 : tie.Need-same-length-6
-same-length-6 c = search needs
-
-same-length-7 : tie.Need-same-length-7
-same-length-7 c = search needs
-
-returns : tie.Need-returns
-returns c = back _ _ _ _ _ _ _ _ _ _ _ _ _ (query-moves _ _ _ _ _) (c .before .before .before .before .before .before .before .before .before .before .before .before .before .before .before .query-whole .ensures) (c .seat .ensures)
-
-pub query-held-spec : {M : Type 1} → statement M
-query-held-spec =
-    tie.close
-    (tie.spec
-    query-whole-requires
-    seat-requires
-    same-length
-    same-length-2
-    same-length-3
-    same-length-4
-    same-length-5
-    same-length-6
-    same-length-7
-    returns)
+pub query-held-spec : {M : Type 1} → stated.statement M
+unfolding code.routine
+query-held-spec 𝓤 H 𝓜 𝓖 𝓡 =
+    held-call tables-in-front (asks .more) (next-to _ here) (Comes-to unseen asks) (Held-to asks)
+    (λ y d z h x e. back _ _ _ _ _ _ _ _ _ _ _ _ _ (query-moves _ _ _ _ _) h e)
+    𝓤 H 𝓜 𝓖 𝓡 code.env #door·query-held (record { name = call-def.name; routine = call-def.routine; met = call-thm.met }) place-called
+    (code.unfolded 𝓤 H 𝓜 𝓡) code.calls-index·query code.calls-lent·place

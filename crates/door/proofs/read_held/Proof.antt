@@ -1,51 +1,18 @@
--- `read_held` meets its contract: what `read_whole` leaves, told with the one session.
+-- `read_held` meets its contract: it is an instance of the walk of the doors, at the index's `read`.
 -- Assumes nothing.
-use borrow.Author.Needs.{needs}
-use Rattle.door.proofs.OneSeat.{back, read-moves}
-use Rattle.door.proofs.read_held.Statement.{statement}
-use Rattle.door.proofs.read_held.Tie as tie
-use Rattle.door.proofs.read_held.Reads as reads
-use Rattle.door.proofs.read_held.Lts as lts
-use Rattle.door.proofs.read_whole.Reads as read-whole-reads
-use Rattle.door.proofs.seat.Reads as seat-reads
+use Rattle.door.proofs.Calls.{held-call, tables-in-front, here, Comes-to, unseen, Held-to, back, place-called}
+use Rattle.door.proofs.OneSeat.{read-moves}
+use Rattle.index.proofs.Calls.{reads}
+use Rattle.index.proofs.read.Symbol as call-def
+use Rattle.index.proofs.read.Met as call-thm
+use Rattle.door.proofs.read_held.Key.{name as #door·read-held}
+use Rattle.door.proofs.read_held.Statement as stated
+use Rattle.door.proofs.read_held.Code as code
 
-read-whole-requires : tie.Need-read-whole-requires
-read-whole-requires c κs = search needs
-
-seat-requires : tie.Need-seat-requires
-seat-requires c κs = search needs
-
-same-length : tie.Need-same-length
-same-length c = search needs
-
-same-length-2 : tie.Need-same-length-2
-same-length-2 c = search needs
-
-same-length-3 : tie.Need-same-length-3
-same-length-3 c = search needs
-
-same-length-4 : tie.Need-same-length-4
-same-length-4 c = search needs
-
-same-length-5 : tie.Need-same-length-5
-same-length-5 c = search needs
-
-same-length-6 : tie.Need-same-length-6
-same-length-6 c = search needs
-
-returns : tie.Need-returns
-returns c = back _ _ _ _ _ _ _ _ _ _ _ _ _ (read-moves _ _ _) (c .before .before .before .before .before .before .before .before .before .before .before .before .before .read-whole .ensures) (c .seat .ensures)
-
-pub read-held-spec : {M : Type 1} → statement M
-read-held-spec =
-    tie.close
-    (tie.spec
-    read-whole-requires
-    seat-requires
-    same-length
-    same-length-2
-    same-length-3
-    same-length-4
-    same-length-5
-    same-length-6
-    returns)
+pub read-held-spec : {M : Type 1} → stated.statement M
+unfolding code.routine
+read-held-spec 𝓤 H 𝓜 𝓖 𝓡 =
+    held-call tables-in-front (reads .more) here (Comes-to unseen reads) (Held-to reads)
+    (λ y d z h x e. back _ _ _ _ _ _ _ _ _ _ _ _ _ (read-moves _ _ _) h e)
+    𝓤 H 𝓜 𝓖 𝓡 code.env #door·read-held (record { name = call-def.name; routine = call-def.routine; met = call-thm.met }) place-called
+    (code.unfolded 𝓤 H 𝓜 𝓡) code.calls-index·read code.calls-lent·place

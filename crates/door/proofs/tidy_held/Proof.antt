@@ -1,51 +1,18 @@
--- `tidy_held` meets its contract: what `tidy_whole` leaves, told with the one session.
+-- `tidy_held` meets its contract: it is an instance of the walk of the doors, at the index's `tidy`.
 -- Assumes nothing.
-use borrow.Author.Needs.{needs}
-use Rattle.door.proofs.OneSeat.{back, tidy-moves}
-use Rattle.door.proofs.tidy_held.Statement.{statement}
-use Rattle.door.proofs.tidy_held.Tie as tie
-use Rattle.door.proofs.tidy_held.Reads as reads
-use Rattle.door.proofs.tidy_held.Lts as lts
-use Rattle.door.proofs.seat.Reads as seat-reads
-use Rattle.door.proofs.tidy_whole.Reads as tidy-whole-reads
+use Rattle.door.proofs.Calls.{held-call, tables-in-front, here, Comes-to, unseen, Held-to, back, place-called}
+use Rattle.door.proofs.OneSeat.{tidy-moves}
+use Rattle.index.proofs.Calls.{tidies}
+use Rattle.index.proofs.tidy.Symbol as call-def
+use Rattle.index.proofs.tidy.Met as call-thm
+use Rattle.door.proofs.tidy_held.Key.{name as #door·tidy-held}
+use Rattle.door.proofs.tidy_held.Statement as stated
+use Rattle.door.proofs.tidy_held.Code as code
 
-tidy-whole-requires : tie.Need-tidy-whole-requires
-tidy-whole-requires c κs = search needs
-
-seat-requires : tie.Need-seat-requires
-seat-requires c κs = search needs
-
-same-length : tie.Need-same-length
-same-length c = search needs
-
-same-length-2 : tie.Need-same-length-2
-same-length-2 c = search needs
-
-same-length-3 : tie.Need-same-length-3
-same-length-3 c = search needs
-
-same-length-4 : tie.Need-same-length-4
-same-length-4 c = search needs
-
-same-length-5 : tie.Need-same-length-5
-same-length-5 c = search needs
-
-same-length-6 : tie.Need-same-length-6
-same-length-6 c = search needs
-
-returns : tie.Need-returns
-returns c = back _ _ _ _ _ _ _ _ _ _ _ _ _ (tidy-moves _ _ _) (c .before .before .before .before .before .before .before .before .before .before .before .before .before .tidy-whole .ensures) (c .seat .ensures)
-
-pub tidy-held-spec : {M : Type 1} → statement M
-tidy-held-spec =
-    tie.close
-    (tie.spec
-    tidy-whole-requires
-    seat-requires
-    same-length
-    same-length-2
-    same-length-3
-    same-length-4
-    same-length-5
-    same-length-6
-    returns)
+pub tidy-held-spec : {M : Type 1} → stated.statement M
+unfolding code.routine
+tidy-held-spec 𝓤 H 𝓜 𝓖 𝓡 =
+    held-call tables-in-front (tidies .more) here (Comes-to unseen tidies) (Held-to tidies)
+    (λ y d z h x e. back _ _ _ _ _ _ _ _ _ _ _ _ _ (tidy-moves _ _ _) h e)
+    𝓤 H 𝓜 𝓖 𝓡 code.env #door·tidy-held (record { name = call-def.name; routine = call-def.routine; met = call-thm.met }) place-called
+    (code.unfolded 𝓤 H 𝓜 𝓡) code.calls-index·tidy code.calls-lent·place
