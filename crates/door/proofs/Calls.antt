@@ -2,18 +2,16 @@
 --     tables-in-front      the parameters in front of the session table: the other tables
 --     Held-to              what such a call says: the table with the session in its result, put at the place that the call is about, is the
 --                          one that the call's definition leaves.        Created      what create says
---     gives                so says a call whose definition changes that place alone
 --     place-called         `lent::place`
 -- Assumes nothing.
 use mathlib.Core.Path.{_≡_}
 use mathlib.Core.List.{List, [], _∷_}
 use mir.Syntax.{w32, w64}
-use Rattle.tables.specs.Cells.{Tables}
 use Rattle.lent.specs.Places.{putAt, allFreed}
 use Rattle.lent.proofs.Data.{number}
 use Rattle.lent.proofs.Types.{session}
 pub use Rattle.lent.proofs.Slices.{unseen}
-use Rattle.lent.proofs.Slices.{Param, lent, Lists}
+use Rattle.lent.proofs.Slices.{Param, lent}
 use Rattle.lent.proofs.Lent.{Says, Callee}
 use Rattle.lent.proofs.place.Symbol as place-def
 use Rattle.lent.proofs.place.Met as place-thm

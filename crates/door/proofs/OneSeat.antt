@@ -15,6 +15,10 @@ use lib.ListN.{length, set}
 use lib.Seq.{set-out, set-getD, getD-set-same}
 use borrow.Author.Tests.{lt-ltb, leb-false}
 use Rattle.bits.specs.Cases.{lt-cases}
+use Rattle.bits.specs.Vec.{vec}
+use Rattle.rules.specs.State.{chain, session, startOf}
+use Rattle.rules.specs.Versions.{queried}
+use Rattle.rules.specs.Tidy.{tidyChanges}
 use Rattle.rules.specs.Calls.{Call, create, begin, query, read, update, delete, insert, commit, tidy, abort}
 use Rattle.rules.specs.Refusals.{Test, firstOf, noSession, tests}
 use Rattle.rules.specs.Limits.{maxSessions}
@@ -22,16 +26,13 @@ use Rattle.tables.specs.declared.session.Session.{Session}
 use Rattle.tables.specs.Cells.{Tables, tables, stampIn, rowsIn, slotsIn, changesIn, headOf}
 use Rattle.tables.specs.Sessions.{freed, begun, sessionAt}
 use Rattle.tables.specs.Clock.{clockIn}
-use Rattle.rules.specs.State.{chain, session, startOf}
-use Rattle.rules.specs.Versions.{queried}
-use Rattle.rules.specs.Tidy.{tidyChanges}
-use Rattle.bits.specs.Vec.{vec}
 use Rattle.tables.specs.Meaning.{meaning}
 use Rattle.lent.specs.Places.{seatAt, putAt, allFreed}
 use Rattle.calls.specs.Said.{Said, numbers}
 use Rattle.calls.specs.Outcome.{Outcome, outcome, refusalAt, refusalOfCreate, unless}
 use Rattle.calls.specs.Stores.{clockCell, slotCell, headCell, wordStores}
-use Rattle.calls.specs.Calls.{own, reseated, beginning, columnOf, createdTables, createOf, beginOf, readOf, updateOf, deleteOf, insertOf, commitOf, tidyOf, abortOf}
+use Rattle.calls.specs.Calls.{own, reseated, beginning, columnOf, createdTables, createOf, beginOf, readOf, updateOf, deleteOf, insertOf}
+use Rattle.calls.specs.Calls.{commitOf, tidyOf, abortOf}
 use Rattle.calls.specs.Query.{flipsSeen, asked, queryOf}
 use Rattle.calls.proofs.Serving.{accepted}
 use Rattle.calls.proofs.StoreLaws.{commit-stores, version-stores, log-stores}
@@ -77,7 +78,8 @@ allSeats ts o = allFreed ts (accepts (o .answer))
 
 -- that session, however it came about
 pub back : (clock slots words heads log changes : List ℕ) (us ts : List Session) (bs : List (List ℕ)) (a : Said) (n : ℕ)
-    (s : Session) (o : Outcome) → Makes (oneSeat ts n) o → outcome (tables clock slots words heads log changes us) bs a ≡ o → s ≡ seatAt us n
+    (s : Session) (o : Outcome)
+    → Makes (oneSeat ts n) o → outcome (tables clock slots words heads log changes us) bs a ≡ o → s ≡ seatAt us n
     → outcome (tables clock slots words heads log changes (putAt ts n s)) bs a ≡ o
 back clock slots words heads log changes us ts bs a n s o m h e =
     ap (λ (x : Session). outcome (tables clock slots words heads log changes (putAt ts n x)) bs a) e
@@ -88,6 +90,7 @@ module _ (t : Tables) (n : ℕ) where
   abbrev Moves : Outcome → Type 0
   Moves = Makes (oneSeat (t .sessions) n)
 
+  -- refused, it changes nothing; accepted, its session has a place
   calls : (c : Call) (rest : List Test) → tests (meaning t) c ≡ noSession n ∷ rest → (bs : List (List ℕ)) (o : Outcome)
       → (n < 16 → Moves o) → Moves (unless (refusalAt t c) t bs o)
   unfolding unless maxSessions
@@ -101,10 +104,12 @@ module _ (t : Tables) (n : ℕ) where
       go none r = h (low (noSession n .0) refl (sym (ap firstOf e) ∙ accepted t c r .2))
       go (some k) r = put-seat (t .sessions) n
 
+  -- one of two outcomes
   either : (b : Bool) (o p : Outcome) → Moves o → Moves p → Moves (cond b o p)
   either true o p m k = m
   either false o p m k = k
 
+  -- the nine
   pub begin-moves : Moves (beginOf t n)
   unfolding beginOf beginning tests
   begin-moves = calls (begin n) _ refl [] _ (λ l. either (eqb (own t n .live) 1) (outcome t [] _)
@@ -137,7 +142,7 @@ module _ (t : Tables) (n : ℕ) where
   unfolding abortOf tests
   abort-moves = calls (abort n) _ refl [] _ (put-set (t .sessions) n freed)
 
-  -- stores by which the sessions come to be us
+  -- tables told in two ways
   stored : (u v : Tables) → u ≡ v → putAt (t .sessions) n (seatAt (v .sessions) n) ≡ v .sessions
       → putAt (t .sessions) n (seatAt (u .sessions) n) ≡ u .sessions
   stored u v e = subst (λ (w : Tables). putAt (t .sessions) n (seatAt (w .sessions) n) ≡ w .sessions) (sym e)
@@ -162,7 +167,7 @@ module _ (t : Tables) (n : ℕ) where
       (version-stores t (32 * k) ws k v stamp link) (changesIn (t .clock)) cs (stampIn (t .clock)) 2 (rowsIn (t .clock)) end)
       (put-seat (t .sessions) n))
 
--- ---- create
+-- ---- create: all free where it is accepted, and else as they were
 pub create-frees : (t : Tables) (c : ℕ) (col : List ℕ) → Makes (allSeats (t .sessions)) (createOf t c col)
 unfolding createOf unless allFreed accepts
 create-frees t c col = go (refusalOfCreate t (create c (columnOf col)))
