@@ -1,24 +1,26 @@
-// The ten calls, of a program that holds its session table by value: each lends the table to the call of `index`, and hands it back with
-// the answer.
+// The ten calls, of a program that holds its session table by value: each lends the table to the call of `index`, and hands back with the
+// answer the one session that the call may have changed; create, which may free all sixteen, hands back none.
 use calls::Answer;
 use tables::Session;
 ghost use mathlib.Core.Path.{_≡_};
 ghost use mathlib.Core.List.{[], _∷_};
 ghost use Rattle.tables.specs.Cells.{tables};
+ghost use Rattle.lent.specs.Places.{putAt, allFreed};
 ghost use Rattle.calls.specs.Said.{said};
 ghost use Rattle.calls.specs.Outcome.{outcome};
 ghost use Rattle.calls.specs.Calls.{createOf, beginOf, readOf, updateOf, deleteOf, insertOf, commitOf, tidyOf, abortOf};
 ghost use Rattle.calls.specs.Query.{queryOf};
+ghost use Rattle.door.specs.Accepts.{accepts};
 
 // The session table of a program that holds it.
 pub struct Sessions {
     pub at: [Session; 16],
 }
 
-// A call's answer, and the session table afterwards.
+// A call's answer, and the session that stands afterwards at the place it was about.
 pub struct Held {
     pub answer: Answer,
-    pub at: [Session; 16],
+    pub session: Session,
 }
 
 // Create, of sessions that are held.
@@ -32,19 +34,15 @@ pub fn create_held(
     all: Sessions,
     c: u64,
     column: &[u8],
-) -> Held
+) -> Answer
     ensures { λ r. ⌜ outcome
         (tables (now (clock .exit)) (now (slots .exit)) (now (words .exit)) (now (heads .exit))
-        (now (log .exit)) (now (changes .exit)) (r .at)) [] (said (r .answer)) ≡ createOf
+        (now (log .exit)) (now (changes .exit)) (allFreed (all .at) (accepts (said r)))) [] (said r) ≡ createOf
         (tables (now (clock .entry)) (now (slots .entry)) (now (words .entry)) (now (heads .entry))
         (now (log .entry)) (now (changes .entry)) (all .at)) c (now (column .entry)) ⌝ }
 {
     let mut at = all.at;
-    let answer = index::create(clock, slots, words, heads, log, changes, &mut at, c, column);
-    Held {
-        answer: answer,
-        at: at,
-    }
+    index::create(clock, slots, words, heads, log, changes, &mut at, c, column)
 }
 
 // Begin, of sessions that are held.
@@ -60,15 +58,16 @@ pub fn begin_held(
 ) -> Held
     ensures { λ r. ⌜ outcome
         (tables (now (clock .exit)) (now (slots .exit)) (now (words .exit)) (now (heads .exit))
-        (now (log .exit)) (now (changes .exit)) (r .at)) [] (said (r .answer)) ≡ beginOf
+        (now (log .exit)) (now (changes .exit)) (putAt (all .at) n (r .session))) [] (said (r .answer)) ≡ beginOf
         (tables (now (clock .entry)) (now (slots .entry)) (now (words .entry)) (now (heads .entry))
         (now (log .entry)) (now (changes .entry)) (all .at)) n ⌝ }
 {
     let mut at = all.at;
     let answer = index::begin(clock, slots, words, heads, log, changes, &mut at, n);
+    let session = lent::place(&at, n);
     Held {
         answer: answer,
-        at: at,
+        session: session,
     }
 }
 
@@ -88,7 +87,8 @@ pub fn query_held(
 ) -> Held
     ensures { λ r. ⌜ outcome
         (tables (now (clock .exit)) (now (slots .exit)) (now (words .exit)) (now (heads .exit))
-        (now (log .exit)) (now (changes .exit)) (r .at)) (now (scratch .exit) ∷ []) (said (r .answer)) ≡ queryOf
+        (now (log .exit)) (now (changes .exit)) (putAt (all .at) n (r .session))) (now (scratch .exit) ∷ []) (said (r .answer))
+        ≡ queryOf
         (tables (now (clock .entry)) (now (slots .entry)) (now (words .entry)) (now (heads .entry))
         (now (log .entry)) (now (changes .entry)) (all .at)) (now (scratch .entry)) n v threshold ⌝ }
 {
@@ -106,9 +106,10 @@ pub fn query_held(
         v,
         threshold,
     );
+    let session = lent::place(&at, n);
     Held {
         answer: answer,
-        at: at,
+        session: session,
     }
 }
 
@@ -126,15 +127,16 @@ pub fn read_held(
 ) -> Held
     ensures { λ r. ⌜ outcome
         (tables (now (clock .exit)) (now (slots .exit)) (now (words .exit)) (now (heads .exit))
-        (now (log .exit)) (now (changes .exit)) (r .at)) [] (said (r .answer)) ≡ readOf
+        (now (log .exit)) (now (changes .exit)) (putAt (all .at) n (r .session))) [] (said (r .answer)) ≡ readOf
         (tables (now (clock .entry)) (now (slots .entry)) (now (words .entry)) (now (heads .entry))
         (now (log .entry)) (now (changes .entry)) (all .at)) n row ⌝ }
 {
     let mut at = all.at;
     let answer = index::read(clock, slots, words, heads, log, changes, &mut at, n, row);
+    let session = lent::place(&at, n);
     Held {
         answer: answer,
-        at: at,
+        session: session,
     }
 }
 
@@ -153,15 +155,16 @@ pub fn update_held(
 ) -> Held
     ensures { λ r. ⌜ outcome
         (tables (now (clock .exit)) (now (slots .exit)) (now (words .exit)) (now (heads .exit))
-        (now (log .exit)) (now (changes .exit)) (r .at)) [] (said (r .answer)) ≡ updateOf
+        (now (log .exit)) (now (changes .exit)) (putAt (all .at) n (r .session))) [] (said (r .answer)) ≡ updateOf
         (tables (now (clock .entry)) (now (slots .entry)) (now (words .entry)) (now (heads .entry))
         (now (log .entry)) (now (changes .entry)) (all .at)) n row v ⌝ }
 {
     let mut at = all.at;
     let answer = index::update(clock, slots, words, heads, log, changes, &mut at, n, row, v);
+    let session = lent::place(&at, n);
     Held {
         answer: answer,
-        at: at,
+        session: session,
     }
 }
 
@@ -179,15 +182,16 @@ pub fn delete_held(
 ) -> Held
     ensures { λ r. ⌜ outcome
         (tables (now (clock .exit)) (now (slots .exit)) (now (words .exit)) (now (heads .exit))
-        (now (log .exit)) (now (changes .exit)) (r .at)) [] (said (r .answer)) ≡ deleteOf
+        (now (log .exit)) (now (changes .exit)) (putAt (all .at) n (r .session))) [] (said (r .answer)) ≡ deleteOf
         (tables (now (clock .entry)) (now (slots .entry)) (now (words .entry)) (now (heads .entry))
         (now (log .entry)) (now (changes .entry)) (all .at)) n row ⌝ }
 {
     let mut at = all.at;
     let answer = index::delete(clock, slots, words, heads, log, changes, &mut at, n, row);
+    let session = lent::place(&at, n);
     Held {
         answer: answer,
-        at: at,
+        session: session,
     }
 }
 
@@ -205,15 +209,16 @@ pub fn insert_held(
 ) -> Held
     ensures { λ r. ⌜ outcome
         (tables (now (clock .exit)) (now (slots .exit)) (now (words .exit)) (now (heads .exit))
-        (now (log .exit)) (now (changes .exit)) (r .at)) [] (said (r .answer)) ≡ insertOf
+        (now (log .exit)) (now (changes .exit)) (putAt (all .at) n (r .session))) [] (said (r .answer)) ≡ insertOf
         (tables (now (clock .entry)) (now (slots .entry)) (now (words .entry)) (now (heads .entry))
         (now (log .entry)) (now (changes .entry)) (all .at)) n v ⌝ }
 {
     let mut at = all.at;
     let answer = index::insert(clock, slots, words, heads, log, changes, &mut at, n, v);
+    let session = lent::place(&at, n);
     Held {
         answer: answer,
-        at: at,
+        session: session,
     }
 }
 
@@ -230,15 +235,16 @@ pub fn commit_held(
 ) -> Held
     ensures { λ r. ⌜ outcome
         (tables (now (clock .exit)) (now (slots .exit)) (now (words .exit)) (now (heads .exit))
-        (now (log .exit)) (now (changes .exit)) (r .at)) [] (said (r .answer)) ≡ commitOf
+        (now (log .exit)) (now (changes .exit)) (putAt (all .at) n (r .session))) [] (said (r .answer)) ≡ commitOf
         (tables (now (clock .entry)) (now (slots .entry)) (now (words .entry)) (now (heads .entry))
         (now (log .entry)) (now (changes .entry)) (all .at)) n ⌝ }
 {
     let mut at = all.at;
     let answer = index::commit(clock, slots, words, heads, log, changes, &mut at, n);
+    let session = lent::place(&at, n);
     Held {
         answer: answer,
-        at: at,
+        session: session,
     }
 }
 
@@ -256,15 +262,16 @@ pub fn tidy_held(
 ) -> Held
     ensures { λ r. ⌜ outcome
         (tables (now (clock .exit)) (now (slots .exit)) (now (words .exit)) (now (heads .exit))
-        (now (log .exit)) (now (changes .exit)) (r .at)) [] (said (r .answer)) ≡ tidyOf
+        (now (log .exit)) (now (changes .exit)) (putAt (all .at) n (r .session))) [] (said (r .answer)) ≡ tidyOf
         (tables (now (clock .entry)) (now (slots .entry)) (now (words .entry)) (now (heads .entry))
         (now (log .entry)) (now (changes .entry)) (all .at)) n v ⌝ }
 {
     let mut at = all.at;
     let answer = index::tidy(clock, slots, words, heads, log, changes, &mut at, n, v);
+    let session = lent::place(&at, n);
     Held {
         answer: answer,
-        at: at,
+        session: session,
     }
 }
 
@@ -281,14 +288,15 @@ pub fn abort_held(
 ) -> Held
     ensures { λ r. ⌜ outcome
         (tables (now (clock .exit)) (now (slots .exit)) (now (words .exit)) (now (heads .exit))
-        (now (log .exit)) (now (changes .exit)) (r .at)) [] (said (r .answer)) ≡ abortOf
+        (now (log .exit)) (now (changes .exit)) (putAt (all .at) n (r .session))) [] (said (r .answer)) ≡ abortOf
         (tables (now (clock .entry)) (now (slots .entry)) (now (words .entry)) (now (heads .entry))
         (now (log .entry)) (now (changes .entry)) (all .at)) n ⌝ }
 {
     let mut at = all.at;
     let answer = index::abort(clock, slots, words, heads, log, changes, &mut at, n);
+    let session = lent::place(&at, n);
     Held {
         answer: answer,
-        at: at,
+        session: session,
     }
 }

@@ -49,11 +49,11 @@ module _ {M : Type 1} {𝓤 : URA M} {H : Heap 𝓤} {A : Atoms 𝓤} {W : Given
   same-then m k = record { there = via 𝓤 (⋆ 𝓤 H A Δ) (m .there) (k .there); back = via 𝓤 (⋆ 𝓤 H A Δ) (k .back) (m .back) }
 
   -- an operand that is read in one is read in the other
-  opd-via : {K : Type 0} {E : Env 𝓤 H} {x : Operand} {v : Val} → Same W Γ Δ → Opd K W Δ E x v → Opd K W Γ E x v
+  pub opd-via : {K : Type 0} {E : Env 𝓤 H} {x : Operand} {v : Val} → Same W Γ Δ → Opd K W Δ E x v → Opd K W Γ E x v
   opd-via m o = record { go = λ Kt h. via 𝓤 (⋆ 𝓤 H A Δ) (m .there) (o .go Kt (via 𝓤 (⋆ 𝓤 H A Γ) (m .back) h)) }
 
 module _ {M : Type 1} {𝓤 : URA M} {H : Heap 𝓤} {A : Atoms 𝓤} {W : Given 𝓤 H A} {Δ : List (Item 𝓤)} where
-  first-apart : {P Q : Fml} → Same W (‵ (fsep P Q) ∷ Δ) (‵ P ∷ ‵ Q ∷ Δ)
+  pub first-apart : {P Q : Fml} → Same W (‵ (fsep P Q) ∷ Δ) (‵ P ∷ ‵ Q ∷ Δ)
   first-apart {P} {Q} = record { there = qed W (‵ (fsep P Q) ∷ Δ) ∵ fsplit ! $ done !; back = qed W (‵ P ∷ ‵ Q ∷ Δ) ∵ fjoin ! $ done ! }
 
   pub second-apart : {O P Q : Fml} → Same W (‵ O ∷ ‵ (fsep P Q) ∷ Δ) (‵ Q ∷ ‵ P ∷ ‵ O ∷ Δ)
@@ -62,19 +62,19 @@ module _ {M : Type 1} {𝓤 : URA M} {H : Heap 𝓤} {A : Atoms 𝓤} {W : Given
     back = qed W (‵ Q ∷ ‵ P ∷ ‵ O ∷ Δ) ∵ move ! (1 ∷ 0 ∷ []) $ fjoin ! $ move ! (1 ∷ []) $ done !;
   }
 
-  heads-apart : {O P Q R : Fml} → Same W (‵ (fsep O P) ∷ ‵ (fsep Q R) ∷ Δ) (‵ O ∷ ‵ Q ∷ ‵ P ∷ ‵ R ∷ Δ)
+  pub heads-apart : {O P Q R : Fml} → Same W (‵ (fsep O P) ∷ ‵ (fsep Q R) ∷ Δ) (‵ O ∷ ‵ Q ∷ ‵ P ∷ ‵ R ∷ Δ)
   heads-apart {O} {P} {Q} {R} = record {
     there = qed W (‵ (fsep O P) ∷ ‵ (fsep Q R) ∷ Δ) ∵ fsplit ! $ move ! (2 ∷ []) $ fsplit ! $ move ! (2 ∷ 0 ∷ 3 ∷ []) $ done !;
     back = qed W (‵ O ∷ ‵ Q ∷ ‵ P ∷ ‵ R ∷ Δ) ∵ move ! (1 ∷ 3 ∷ []) $ fjoin ! $ move ! (1 ∷ 2 ∷ []) $ fjoin ! $ done !;
   }
 
-  tails-apart : {O P Q R : Fml} → Same W (‵ (fsep O P) ∷ ‵ (fsep Q R) ∷ Δ) (‵ P ∷ ‵ R ∷ ‵ O ∷ ‵ Q ∷ Δ)
+  pub tails-apart : {O P Q R : Fml} → Same W (‵ (fsep O P) ∷ ‵ (fsep Q R) ∷ Δ) (‵ P ∷ ‵ R ∷ ‵ O ∷ ‵ Q ∷ Δ)
   tails-apart {O} {P} {Q} {R} = record {
     there = qed W (‵ (fsep O P) ∷ ‵ (fsep Q R) ∷ Δ) ∵ fsplit ! $ move ! (2 ∷ []) $ fsplit ! $ move ! (3 ∷ 1 ∷ 2 ∷ []) $ done !;
     back = qed W (‵ P ∷ ‵ R ∷ ‵ O ∷ ‵ Q ∷ Δ) ∵ move ! (3 ∷ 1 ∷ []) $ fjoin ! $ move ! (2 ∷ 1 ∷ []) $ fjoin ! $ done !;
   }
 
-  same-here : {i : Item 𝓤} {O P Q : Fml} → Same W (i ∷ ‵ O ∷ ‵ P ∷ ‵ Q ∷ Δ) (‵ O ∷ ‵ P ∷ i ∷ ‵ Q ∷ Δ)
+  pub same-here : {i : Item 𝓤} {O P Q : Fml} → Same W (i ∷ ‵ O ∷ ‵ P ∷ ‵ Q ∷ Δ) (‵ O ∷ ‵ P ∷ i ∷ ‵ Q ∷ Δ)
   same-here {i} {O} {P} {Q} = record {
     there = qed W (i ∷ ‵ O ∷ ‵ P ∷ ‵ Q ∷ Δ) ∵ move ! (1 ∷ 2 ∷ []) $ done !;
     back = qed W (‵ O ∷ ‵ P ∷ i ∷ ‵ Q ∷ Δ) ∵ move ! (2 ∷ []) $ done !;

@@ -1,6 +1,7 @@
 -- `commit_held` meets its contract: it is an instance of the walk of the doors, at the index's `commit`.
 -- Assumes nothing.
-use Rattle.door.proofs.Calls.{held-call, tables-in-front, Comes-to, unseen, Held-to}
+use Rattle.door.proofs.Calls.{held-call, tables-in-front, here, Comes-to, unseen, Held-to, back, place-called}
+use Rattle.door.proofs.OneSeat.{commit-moves}
 use Rattle.index.proofs.Calls.{commits}
 use Rattle.index.proofs.commit.Symbol as call-def
 use Rattle.index.proofs.commit.Met as call-thm
@@ -11,6 +12,7 @@ use Rattle.door.proofs.commit_held.Code as code
 pub commit-held-spec : {M : Type 1} → stated.statement M
 unfolding code.routine
 commit-held-spec 𝓤 H 𝓜 𝓖 𝓡 =
-    held-call tables-in-front (commits .more) (Comes-to unseen commits) (Held-to commits) (λ y d z h. h)
-    𝓤 H 𝓜 𝓖 𝓡 code.env #door·commit-held (record { name = call-def.name; routine = call-def.routine; met = call-thm.met })
-    (code.unfolded 𝓤 H 𝓜 𝓡) code.calls-index·commit
+    held-call tables-in-front (commits .more) here (Comes-to unseen commits) (Held-to commits)
+    (λ y d z h x e. back _ _ _ _ _ _ _ _ _ _ _ _ _ (commit-moves _ _) h e)
+    𝓤 H 𝓜 𝓖 𝓡 code.env #door·commit-held (record { name = call-def.name; routine = call-def.routine; met = call-thm.met }) place-called
+    (code.unfolded 𝓤 H 𝓜 𝓡) code.calls-index·commit code.calls-lent·place

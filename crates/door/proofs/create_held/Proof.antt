@@ -1,6 +1,7 @@
 -- `create_held` meets its contract: it is an instance of the walk of the doors, at the index's `create`.
 -- Assumes nothing.
-use Rattle.door.proofs.Calls.{held-call, tables-in-front, Comes-to, unseen, Held-to}
+use Rattle.door.proofs.Calls.{only-call, tables-in-front, Comes-to, unseen, Created, told, allSeats}
+use Rattle.door.proofs.OneSeat.{create-frees}
 use Rattle.index.proofs.Calls.{creates}
 use Rattle.index.proofs.create.Symbol as call-def
 use Rattle.index.proofs.create.Met as call-thm
@@ -11,6 +12,7 @@ use Rattle.door.proofs.create_held.Code as code
 pub create-held-spec : {M : Type 1} → stated.statement M
 unfolding code.routine
 create-held-spec 𝓤 H 𝓜 𝓖 𝓡 =
-    held-call tables-in-front (creates .more) (Comes-to unseen creates) (Held-to creates) (λ y d z h. h)
+    only-call tables-in-front (creates .more) (Comes-to unseen creates) Created
+    (λ y d z h. told _ _ _ _ _ _ _ _ _ _ (allSeats _) (create-frees _ _ _) h)
     𝓤 H 𝓜 𝓖 𝓡 code.env #door·create-held (record { name = call-def.name; routine = call-def.routine; met = call-thm.met })
     (code.unfolded 𝓤 H 𝓜 𝓡) code.calls-index·create

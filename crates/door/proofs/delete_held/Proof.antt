@@ -1,6 +1,7 @@
 -- `delete_held` meets its contract: it is an instance of the walk of the doors, at the index's `delete`.
 -- Assumes nothing.
-use Rattle.door.proofs.Calls.{held-call, tables-in-front, Comes-to, unseen, Held-to}
+use Rattle.door.proofs.Calls.{held-call, tables-in-front, here, Comes-to, unseen, Held-to, back, place-called}
+use Rattle.door.proofs.OneSeat.{delete-moves}
 use Rattle.index.proofs.Calls.{deletes}
 use Rattle.index.proofs.delete.Symbol as call-def
 use Rattle.index.proofs.delete.Met as call-thm
@@ -11,6 +12,7 @@ use Rattle.door.proofs.delete_held.Code as code
 pub delete-held-spec : {M : Type 1} → stated.statement M
 unfolding code.routine
 delete-held-spec 𝓤 H 𝓜 𝓖 𝓡 =
-    held-call tables-in-front (deletes .more) (Comes-to unseen deletes) (Held-to deletes) (λ y d z h. h)
-    𝓤 H 𝓜 𝓖 𝓡 code.env #door·delete-held (record { name = call-def.name; routine = call-def.routine; met = call-thm.met })
-    (code.unfolded 𝓤 H 𝓜 𝓡) code.calls-index·delete
+    held-call tables-in-front (deletes .more) here (Comes-to unseen deletes) (Held-to deletes)
+    (λ y d z h x e. back _ _ _ _ _ _ _ _ _ _ _ _ _ (delete-moves _ _ _) h e)
+    𝓤 H 𝓜 𝓖 𝓡 code.env #door·delete-held (record { name = call-def.name; routine = call-def.routine; met = call-thm.met }) place-called
+    (code.unfolded 𝓤 H 𝓜 𝓡) code.calls-index·delete code.calls-lent·place

@@ -1,0 +1,11 @@
+-- Which answers are no refusal.
+-- Assumes nothing.
+use mathlib.Core.Bool.{Bool, true, false}
+use Rattle.calls.specs.Said.{Said, no, numbers, value, words}
+
+-- a call is accepted unless its answer is a refusal's number
+unfoldable pub accepts : Said → Bool
+accepts (no n) = false
+accepts (numbers ns) = true
+accepts (value v) = true
+accepts (words n d p) = true
