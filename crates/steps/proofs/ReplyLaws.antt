@@ -5,6 +5,7 @@ use mathlib.Core.Bool.{Bool, true, false, not}
 use mathlib.Core.List.{List, [], _∷_, _++_, append-nil, append-assoc}
 use Prim.Native.Nat.{ℕ, _≤_}
 use native.Mathlib.Omega.{arith}
+use borrow.Author.Tests.{not-true, not-false}
 use lib.ListN.{length}
 use lib.Seq.{sets}
 use Rattle.tables.specs.declared.session.Session.{Session}
@@ -32,14 +33,6 @@ after-append d (l ∷ ls) ms = after-append (afterLine d l) ls ms
 
 -- ---- a line that is whole, and none
 
-not-no : (b : Bool) → not b ≡ false → b ≡ true
-not-no true e = refl
-not-no false e = sym e
-
-not-yes : (b : Bool) → not b ≡ true → b ≡ false
-not-yes true e = sym e
-not-yes false e = refl
-
 module _ (t t′ : Tables) (s s′ column column′ out out′ line : List ℕ) (len : ℕ) where
   pub replied-line : (whole : Bool) → not whole ≡ false → 4096 ≤ length column → 10276 ≤ length out
       → lineOutcome t′ s′ column′ out′ len ≡ lineOf t s column out line → len ≤ 10276
@@ -55,7 +48,7 @@ module _ (t t′ : Tables) (s s′ column column′ out out′ line : List ℕ) 
         len-is = ap (λ (x : LineOutcome). x .len) o ∙ ap length (sym one);
         short = k;
       } in
-      rw (not-no whole w) r
+      rw (not-false whole w) r
 
 module _ (clock slots words heads log changes s out line : List ℕ) (ts us : List Session) (len : ℕ) where
   pub replied-none : (whole : Bool) → not whole ≡ true → (len ≡ 0) × (us ≡ ts)
@@ -66,4 +59,4 @@ module _ (clock slots words heads log changes s out line : List ℕ) (ts us : Li
       let t = tables clock slots words heads log changes ts in
       let r : Replied (desk t s) [] out (desk (tables clock slots words heads log changes us) s) out len =
       record { desk-is = rw (n .1); out-is = refl; len-is = n .0; short = omega (arith, n .0) } in
-      rw (not-yes whole w) r
+      rw (not-true whole w) r
