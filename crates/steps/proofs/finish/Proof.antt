@@ -16,7 +16,8 @@ whole-requires c κs =
 
 returns-2 : tie.Need-returns-2
 returns-2 c =
-    let w = c .before .before .before .before .before .before .before .before .before .before .before .before .before .before .before .before .before .before .before .before in
+    let b = c .before .before .before .before .before .before .before .before .before .before in
+    let w = b .before .before .before .before .before .before .before .before .before .before in
     let left = w .before .before .before .before .before .before .before .before .before .before .before .before in
     let pre = left .before .before .before .before .before .before .before .before .before .before .before .before .pre in (
       ends-line _ (sym (left .before .goes-on .ensures) ∙ not-false _ (left .if1 .left)) (pre .2) (w .whole .ensures .0),

@@ -15,20 +15,25 @@ run-requires c κs =
 
 finish-requires : tie.Need-finish-requires
 finish-requires c κs =
-    let r : tie.After-run = c .before .before .before .before .before .before .before .before .before .before .before .before .before .before
-    .before .before .before .before .before .before .before .before .before .before .before .before .before .before .before .before .before .before in
-    let pre = r .before .before .before .before .before .before .before .before .before .before .before .before .before .before
-    .before .before .before .before .before .before .before .before .before .before .pre .1 in
+    let a = c .before .before .before .before .before .before .before .before .before .before in
+    let b = a .before .before .before .before .before .before .before .before .before .before in
+    let r : tie.After-run = b .before .before .before .before .before .before .before .before .before .before .before .before in
+    let s = r .before .before .before .before .before .before .before .before .before .before .before .before in
+    let pre = s .before .before .before .before .before .before .before .before .before .before .before .before .pre .1 in
     let k = r .run .kept .1 .1 .1 .1 .1 .1 .1 in
     (omega (arith, pre .0, k .0), omega (arith, pre .1, k .1 .1 .0), omega (arith, r .run .ensures .through .fits, k .1 .0))
 
 -- the end's last line was done, and before it the input was gone through
 abbrev ended : tie.After-slice-known32 → tie.After-finish
-ended c = c .before .before .before .before .before .before .before .before .before .before .before .before .before .before .before .before .before .before .before .before
+ended c =
+    let b = c .before .before .before .before .before .before .before .before .before .before in
+    b .before .before .before .before .before .before .before .before .before .before
 
 abbrev ran : tie.After-slice-known32 → tie.After-run
-ran c = ended c .before .before .before .before .before .before .before .before .before .before .before .before .before .before
-    .before .before .before .before .before .before .before .before .before .before .before .before .before .before .before .before .before .before .before
+ran c =
+    let a = ended c .before .before .before .before .before .before .before .before .before .before .before in
+    let b = a .before .before .before .before .before .before .before .before .before .before .before in
+    b .before .before .before .before .before .before .before .before .before .before .before
 
 returns : tie.Need-returns
 returns c =

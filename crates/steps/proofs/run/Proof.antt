@@ -18,7 +18,8 @@ use Rattle.steps.proofs.run.Tie as tie
 abbrev Inv-loop : tie.InvT-loop
 Inv-loop clock₀ slots₀ words₀ heads₀ log₀ changes₀ scratch₀ column₀ pending₀ out₀ input₀ stand₀ turns₀ more₀
     clock slots words heads log changes scratch column pending out input stand turns more =
-    Kept clock₀ slots₀ words₀ heads₀ log₀ changes₀ scratch₀ column₀ pending₀ out₀ clock slots words heads log changes scratch column pending out
+    Kept clock₀ slots₀ words₀ heads₀ log₀ changes₀ scratch₀ column₀ pending₀ out₀
+    clock slots words heads log changes scratch column pending out
     × Read (desk (tables clock₀ slots₀ words₀ heads₀ log₀ changes₀ (stand₀ .sessions .at)) scratch₀) pending₀ (stand₀ .pending)
     (stand₀ .heard) (stand₀ .told)
     (desk (tables clock slots words heads log changes (stand .sessions .at)) scratch) pending (stand .pending) (stand .heard) (stand .told)
@@ -80,10 +81,10 @@ run-spec =
     μ-loop
     loop-holds
     turn-requires
-    (λ c. let b : tie.In-loop Inv-loop μ-loop = c .before .before .before .before .before .before .before .before .before .before .before .before .before .before
-    .before .before .before .before .before .before .before .before .before .before .before .before .before .before
-    .before .before .before .before .before .before in
-    omega (arith, b .before .loop .inv .5 (b .loop-test .taken)))
+    (λ c. let a = c .before .before .before .before .before .before .before .before .before .before .before .before in
+    let b = a .before .before .before .before .before .before .before .before .before .before .before .before in
+    let t : tie.In-loop Inv-loop μ-loop = b .before .before .before .before .before .before .before .before .before .before in
+    omega (arith, t .before .loop .inv .5 (t .loop-test .taken)))
     (λ c κs. search needs)
     (λ c. let b = began (taken c) in omega (arith, b .before .loop .inv .5 (b .loop-test .taken)))
     loop-again

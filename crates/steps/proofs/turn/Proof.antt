@@ -9,13 +9,15 @@ use Rattle.steps.proofs.turn.Tie as tie
 
 returns : tie.Need-returns
 returns c =
-    let at-read = c .before .before .before .before in
-    let at-pre = at-read .before .before .before .before .before .before .before .before .before .before .before .before .before .before .pre in
-    (read-end _ _ _ _ (at-pre .2) (at-read .read .ensures .watch-is) (c .if1 .taken), λ e. absurd (true≢false (sym e)))
+    let r = c .before .before .before .before in
+    let pre = r .before .before .before .before .before .before .before .before .before .before .before .before .before .before .pre in
+    (read-end _ _ _ _ (pre .2) (r .read .ensures .watch-is) (c .if1 .taken), λ e. absurd (true≢false (sym e)))
 
 -- what was read was gone through
 abbrev through : tie.After-slice-known22 → tie.After-whole
-through c = c .before .before .before .before .before .before .before .before .before .before .before .before .before .before .before .before .before .before .before .before
+through c =
+    let b = c .before .before .before .before .before .before .before .before .before .before in
+    b .before .before .before .before .before .before .before .before .before .before
 
 -- and was read
 abbrev heard : tie.After-whole → tie.After-read

@@ -15,7 +15,8 @@ use Rattle.steps.proofs.whole.Tie as tie
 abbrev Inv-loop : tie.InvT-loop
 Inv-loop clock₀ slots₀ words₀ heads₀ log₀ changes₀ scratch₀ column₀ pending₀ out₀ bytes heard state₀ writer₀ more₀
     clock slots words heads log changes scratch column pending out state writer more =
-    Kept clock₀ slots₀ words₀ heads₀ log₀ changes₀ scratch₀ column₀ pending₀ out₀ clock slots words heads log changes scratch column pending out
+    Kept clock₀ slots₀ words₀ heads₀ log₀ changes₀ scratch₀ column₀ pending₀ out₀
+    clock slots words heads log changes scratch column pending out
     × Along bytes (desk (tables clock₀ slots₀ words₀ heads₀ log₀ changes₀ (state₀ .sessions .at)) scratch₀) pending₀ (state₀ .pending)
     (writer₀ .told)
     (desk (tables clock slots words heads log changes (state .sessions .at)) scratch) pending (state .pending) (state .filled) (state .next)
@@ -37,8 +38,8 @@ turn c = c .before .before .before .before .before .before .before .before .befo
 
 write-requires : tie.Need-write-requires Inv-loop μ-loop
 write-requires c κs =
-    let a : tie.After-answer Inv-loop μ-loop = c .before .before .before .before .before .before .before .before .before .before .before .before .before .before
-    .before .before .before .before .before .before .before in
+    let b = c .before .before .before .before .before .before .before .before .before .before in
+    let a : tie.After-answer Inv-loop μ-loop = b .before .before .before .before .before .before .before .before .before .before .before in
     (omega (arith, a .answer .ensures .comes .fits .filled-fits), along-well (turn a .before .loop .inv .1) (turn a .loop-test .taken))
 
 loop-less : tie.Need-loop-less Inv-loop μ-loop

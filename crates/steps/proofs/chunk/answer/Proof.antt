@@ -1,12 +1,17 @@
 -- `chunk::answer` meets its contract: at the loop's head, the lines answered so far are the first of those that were left.
 -- Assumes nothing.
+use mathlib.Core.Path.{_≡_, ap, _∙_}
+use mathlib.Core.Logic.{⊎-elim}
 use Prim.Native.Nat.{_-_}
 use native.Mathlib.Omega.{arith}
 use borrow.Author.Needs.{needs}
 use lib.ListN.{length}
 use Rattle.tables.specs.Cells.{tables}
+use Rattle.door.specs.declared.Sessions.{Sessions}
+use Rattle.lines.specs.Left.{leaves}
 use Rattle.steps.specs.Desk.{desk}
 use Rattle.steps.specs.Answers.{spot}
+use Rattle.steps.proofs.ReplyLaws.{left-free, left-one, replied-put}
 use Rattle.steps.proofs.KeptLaws.{Kept, kept-none, kept-more}
 use Rattle.steps.proofs.ChunkLaws.{Going, comes-none, filled-more, comes-more, going-left, going-room, going-part, going-end}
 use Rattle.steps.proofs.chunk.answer.Statement.{statement}
@@ -15,7 +20,8 @@ use Rattle.steps.proofs.chunk.answer.Tie as tie
 abbrev Inv-loop : tie.InvT-loop
 Inv-loop clock₀ slots₀ words₀ heads₀ log₀ changes₀ scratch₀ column₀ pending₀ out₀ bytes all₀ len₀ filled₀ at₀ more₀
     clock slots words heads log changes scratch column pending out all len filled at more =
-    Kept clock₀ slots₀ words₀ heads₀ log₀ changes₀ scratch₀ column₀ pending₀ out₀ clock slots words heads log changes scratch column pending out
+    Kept clock₀ slots₀ words₀ heads₀ log₀ changes₀ scratch₀ column₀ pending₀ out₀
+    clock slots words heads log changes scratch column pending out
     × Going bytes
     (spot (desk (tables clock₀ slots₀ words₀ heads₀ log₀ changes₀ (all₀ .at)) scratch₀) pending₀ len₀ out₀ filled₀ at₀)
     (spot (desk (tables clock slots words heads log changes (all .at)) scratch) pending len out filled at) more
@@ -36,7 +42,7 @@ loop-holds c = (
 
 answered-requires : tie.Need-answered-requires Inv-loop μ-loop
 answered-requires c κs =
-    let f : tie.After-feed-line Inv-loop μ-loop = c .before .before .before .before .before .before .before .before .before .before .before .before in
+    let f = c .before .before .before .before .before .before .before .before .before .before .before .before in
     let b = f .before .before in
     let g = b .before .loop .inv in (
       g .0 .wide,
@@ -51,32 +57,43 @@ fed c = c .before .before .before .before .before .before .before .before .befor
 abbrev began : tie.After-answered Inv-loop μ-loop → tie.In-loop Inv-loop μ-loop
 began c = fed c .before .before
 
--- the line was answered
-abbrev answered : tie.After-struct-known Inv-loop μ-loop → tie.After-answered Inv-loop μ-loop
-answered c = c .before .before .before .before .before .before .before .before .before .before .before .before .before .before .before .before .before .before .before .before
+-- the line was answered, and one session put in its place
+abbrev answered : tie.After-session Inv-loop μ-loop → tie.After-answered Inv-loop μ-loop
+answered c =
+    let b = c .before .before .before .before .before .before .before .before .before .before in
+    b .before .before .before .before .before .before .before .before .before .before
 
 add-filled : tie.Need-add-filled Inv-loop μ-loop
 add-filled c =
-    let a = answered c in
+    let a = answered (c .before .before) in
     let b = began a in
     let g = b .before .loop .inv in
-    let good = b .before .before .before .before .before .before .before .before .before .before .before .before .before .before
-    .before .good in
-    omega (arith, going-room (g .1) (b .loop-test .taken), a .answered .ensures .short, g .0 .same .9, good .1 .1 .1 .1 .1 .1 .1 .1 .1 .0)
+    let start = b .before .before .before .before .before .before .before .before .before .before .before .before .before .before .before in
+    let long = start .good .1 .1 .1 .1 .1 .1 .1 .1 .1 .0 in
+    omega (arith, going-room (g .1) (b .loop-test .taken), a .answered .ensures .0 .short, g .0 .same .9, long)
 
 goes-on-requires-2 : tie.Need-goes-on-requires-2 Inv-loop μ-loop
 goes-on-requires-2 c κs =
-    let a = answered c in
+    let a = answered (c .before .before) in
     let b = began a in
     let g = b .before .loop .inv .1 in
-    filled-more (g .came) (going-room g (b .loop-test .taken)) (fed a .feed-line .ensures) (a .answered .ensures)
+    filled-more (g .came) (going-room g (b .loop-test .taken)) (fed a .feed-line .ensures) (a .answered .ensures .0)
+
+-- the sessions are those that the line left
+sessions : (c : tie.Joined1 Inv-loop μ-loop)
+    → c .if1 .all .at ≡ leaves (began (answered (c .before)) .before .loop .all .at) (answered (c .before) .answered .result .left)
+sessions c =
+    ⊎-elim (λ w. left-free _ _ _ (w .0 .taken) (ap (λ (x : Sessions). x .at) (w .2) ∙ w .1 .ensures))
+    (λ w. left-one _ _ _ (w .0 .left) (ap (λ (x : Sessions). x .at) (w .1))) (c .if1 .came)
 
 loop-again : tie.Need-loop-again Inv-loop μ-loop
 loop-again c =
-    let a = answered (c .before) in
+    let j = c .before .before in
+    let a = answered (j .before) in
     let b = began a in
     let g = b .before .loop .inv in
-    let went = comes-more (g .1 .came) (going-room (g .1) (b .loop-test .taken)) (fed a .feed-line .ensures) (a .answered .ensures) in
+    let r = replied-put (a .answered .ensures .0) (sessions j) in
+    let went = comes-more (g .1 .came) (going-room (g .1) (b .loop-test .taken)) (fed a .feed-line .ensures) r in
     (kept-more (g .0) (a .answered .kept) (went .pending-room) (went .out-room), record { came = went; test = c .goes-on2 .ensures })
 
 pub answer-spec : {M : Type 1} → statement M
@@ -88,13 +105,16 @@ answer-spec =
     (λ c κs. search needs)
     loop-holds
     (λ c κs. let g = c .before .before .loop .inv .1 in (g .came .fits .len-fits, going-left g (c .before .loop-test .taken)))
-    (λ c. c .before .before .before .before .before .before .before .before .before .before .before .before .before .before .loop .inv .1 .came .fits .filled-fits)
-    (λ c. c .before .before .before .before .before .before .before .before .before .before .before .before .before .before .loop .inv .1 .came .fits .filled-fits)
+    (λ c. let b = c .before .before .before .before .before .before .before in b .before .before .before .before .before .before .before .loop .inv .1 .came .fits .filled-fits)
+    (λ c. let b = c .before .before .before .before .before .before .before in b .before .before .before .before .before .before .before .loop .inv .1 .came .fits .filled-fits)
     (λ c. search needs)
     answered-requires
+    (λ c. omega (arith, answered c .answered .ensures .1))
+    (λ c. omega (arith, answered c .answered .ensures .1))
+    (λ c κs. search needs)
     add-filled
     goes-on-requires-2
-    (λ c. let f = fed (answered (c .before)) .feed-line .ensures in omega (arith, f .goes-on, f .within))
+    (λ c. let f = fed (answered (c .before .before .before)) .feed-line .ensures in omega (arith, f .goes-on, f .within))
     loop-again
     (λ c. c .before .loop .inv .0 .same .0)
     (λ c. c .before .loop .inv .0 .same .1)
