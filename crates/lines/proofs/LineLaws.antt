@@ -7,7 +7,7 @@ use Prim.Native.Nat.{ℕ, _≤_, _<_}
 use native.Mathlib.Omega.{arith}
 use borrow.Author.Tests.{le-leb, lt-leb}
 use lib.Dec.{leb}
-use lib.ListN.{length}
+use lib.ListN.{length, getD}
 use lib.Seq.{sets}
 use Rattle.tables.specs.declared.session.Session.{Session}
 use Rattle.tables.specs.Cells.{Tables, tables}
@@ -17,8 +17,11 @@ use Rattle.text.specs.declared.requests.Request.{Request}
 use Rattle.text.specs.Parse.{parse, longestLine}
 use Rattle.text.specs.Asked.{ask, askedBy, asked, lineBytes, Requested}
 use Rattle.calls.specs.Said.{Said}
+use Rattle.lines.specs.declared.sessions.Left.{Left}
+use Rattle.lines.specs.Left.{left, leaves}
 use Rattle.lines.specs.Turn.{Turn, turnOf, heardFrom, Turned}
 use Rattle.lines.specs.Line.{LineOutcome, lineOutcome, enough, answerLine, PutLine, written, lineOf}
+use Rattle.lines.proofs.TurnLaws.{first-stands}
 
 -- a line that is too long is not read
 pub long-line : (line column : List ℕ) → 8192 < length line → Requested line column column (ask word.Unknown 0 0 0)
@@ -60,15 +63,16 @@ module _ (t : Tables) (scratch column out line : List ℕ) where
   short-out l = short (ap (λ (b : Bool). leb 4096 (length column) && b) (lt-leb 10276 (length out) l) ∙ and-false (leb 4096 (length column)))
 
 -- nothing is done: no session changes
-module _ (clock slots words heads log changes scratch column out line : List ℕ) (ts us : List Session) (len : ℕ) (n : (len ≡ 0) × (us ≡ ts)) where
+module _ (clock slots words heads log changes scratch column out line : List ℕ) (ts : List Session) (d : Session) (l : Left) (len : ℕ)
+    (e : len ≡ 0) (f : l ≡ left 0 (getD ts 0 d) false) where
   abbrev lent : List Session → Tables
   lent = tables clock slots words heads log changes
 
-  none-done : lineOutcome (lent us) scratch column out len ≡ lineOutcome (lent ts) scratch column out 0
-  none-done = rw (n .0, n .1)
+  none-done : lineOutcome (lent (leaves ts l)) scratch column out len ≡ lineOutcome (lent ts) scratch column out 0
+  none-done = ap₂ (λ (us : List Session) (n : ℕ). lineOutcome (lent us) scratch column out n) (ap (leaves ts) f ∙ first-stands ts d) e
 
-  pub nothing-column : length column < 4096 → lineOutcome (lent us) scratch column out len ≡ lineOf (lent ts) scratch column out line
+  pub nothing-column : length column < 4096 → lineOutcome (lent (leaves ts l)) scratch column out len ≡ lineOf (lent ts) scratch column out line
   nothing-column h = none-done ∙ short-column (lent ts) scratch column out line h
 
-  pub nothing-out : length out < 10276 → lineOutcome (lent us) scratch column out len ≡ lineOf (lent ts) scratch column out line
+  pub nothing-out : length out < 10276 → lineOutcome (lent (leaves ts l)) scratch column out len ≡ lineOf (lent ts) scratch column out line
   nothing-out h = none-done ∙ short-out (lent ts) scratch column out line h

@@ -2,14 +2,15 @@
 -- Assumes nothing.
 use mathlib.Core.Path.{_≡_, refl, sym, ap, ap₂, _∙_}
 use mathlib.Core.Bool.{Bool, true, false, cond}
-use mathlib.Core.List.{List, [], _∷_, map}
+use mathlib.Core.List.{List, [], _∷_, _++_, map, append-nil}
 use mathlib.Core.Option.{Option, none, some}
 use mathlib.Core.Logic.{_⊎_, inl, inr}
-use Prim.Native.Nat.{ℕ, _≤_}
-use borrow.Author.Tests.{eq-eqb, ne-eqb}
+use Prim.Native.Nat.{ℕ, _<_, _≤_}
+use native.Mathlib.Omega.{arith}
+use borrow.Author.Tests.{eq-eqb, ne-eqb, lt-ltb, le-ltb}
 use lib.Dec.{eqb, ltb}
-use lib.ListN.{length, take, replicate}
-use lib.Seq.{length-take-le}
+use lib.ListN.{length, take, getD, set, replicate, length-replicate, drop-of-length-le}
+use lib.Seq.{length-take-le, set-getD, sets-eq}
 use Rattle.bits.specs.Cases.{eq-cases}
 use Rattle.bits.specs.Column.{valueOf}
 use Rattle.bits.specs.Tab.{over}
@@ -18,22 +19,33 @@ use Rattle.rules.specs.State.{session, startOf}
 use Rattle.rules.specs.Limits.{usualThreshold}
 use Rattle.rules.specs.Calls.{Call}
 use Rattle.tables.specs.declared.session.Session.{Session}
+use Rattle.tables.specs.declared.counts.Stamp.{Stamp}
+use Rattle.tables.specs.declared.counts.Row.{Row}
+use Rattle.tables.specs.declared.refusal.Refusal.{Refusal}
 use Rattle.tables.specs.Cells.{Tables, tables, stampIn, rowsIn}
 use Rattle.tables.specs.Clock.{clockIn}
 use Rattle.tables.specs.Sessions.{freed, begun}
 use Rattle.tables.specs.Meaning.{meaning}
+use Rattle.lent.specs.Places.{putAt, freedAll, allFreed}
+use Rattle.history.specs.declared.read.Standing.{Standing}
 use Rattle.history.specs.Version.{slotSeen}
 use Rattle.text.specs.declared.words.Word.{Word}
 use Rattle.text.specs.declared.words.Word.the-variants as word
 use Rattle.text.specs.declared.requests.Request.{Request}
 use Rattle.text.specs.Asked.{askedBy, asked}
-use Rattle.calls.specs.Said.{Said, no, numbers, value, words}
+use Rattle.calls.specs.declared.answers.Place.{Place}
+use Rattle.calls.specs.declared.answers.Answer as core
+use Rattle.calls.specs.declared.answers.Answer.the-variants.{No, Count, At, Read, Listed}
+use Rattle.calls.specs.Said.{Said, no, numbers, value, words, said}
 use Rattle.calls.specs.Outcome.{Outcome, outcome, unless}
 use Rattle.calls.specs.Calls.{own, reseated, beginning, createOf, beginOf, readOf, updateOf, deleteOf, insertOf, commitOf, tidyOf, abortOf}
 use Rattle.calls.specs.Query.{rowsSeen, flipsSeen, queryOf}
 use Rattle.calls.specs.Query as calls
 use Rattle.follow.specs.Heard.{heard}
 use Rattle.demands.specs.Asks.{Ask, create, begin, query, read, update, delete, insert, commit, tidy, abort, comesTo}
+use Rattle.door.specs.Accepts.{accepts}
+use Rattle.lines.specs.declared.sessions.Left.{Left}
+use Rattle.lines.specs.Left.{left, leaves, leftAt}
 use Rattle.lines.specs.Turn.{turn, byteFor, askWith, scratchAfter, made, turnOf, heardFrom, Turned}
 
 -- ---- what a caller hears of a call is what is heard where its words and the program's scratch stand
@@ -118,69 +130,151 @@ pub part-length : (column : List ℕ) (wish : Request) → (wish .word ≡ word.
     → wish .b ≡ length (take (wish .b) column)
 part-length column wish h e = sym (length-take-le (wish .b) column (h e))
 
+-- ---- what is left of the sessions
+
+-- the first as it stood: all stand as they did
+pub first-stands : (ts : List Session) (d : Session) → leaves ts (left 0 (getD ts 0 d) false) ≡ ts
+unfolding leaves
+first-stands ts d = set-getD ts 0 d
+
+-- a session at its place, or at none
+one-left : (ts : List Session) (d : Session) (n : ℕ) (x : Session) → leaves ts (leftAt n x (getD ts 0 d)) ≡ putAt ts n x
+unfolding leftAt putAt leaves
+one-left ts d n x = go (ltb n 16)
+  where
+    go : (z : Bool) → leaves ts (cond z (left n x false) (left 0 (getD ts 0 d) false)) ≡ cond z (set ts n x) ts
+    go true = refl
+    go false = first-stands ts d
+
+-- all are free, or stand as they did
+all-left : (ts : List Session) (d : Session) (z : Bool) → length ts ≡ 16 → leaves ts (left 0 (getD ts 0 d) z) ≡ allFreed ts z
+unfolding leaves allFreed freedAll
+all-left ts d true l =
+    sym (sets-eq (replicate 16 freed) ts 0 (omega (arith, l, length-replicate 16 freed))
+    ∙ ap (λ (us : List Session). replicate 16 freed ++ us) (drop-of-length-le ts {i = 16} (omega (arith, l))) ∙ append-nil _)
+all-left ts d false l = first-stands ts d
+
+pub left-near : (n : ℕ) (x first : Session) → n < 16 → left n x false ≡ leftAt n x first
+unfolding leftAt
+left-near n x first h = ap (λ (z : Bool). cond z (left n x false) (left 0 first false)) (sym (lt-ltb n 16 h))
+
+pub left-far : (n : ℕ) (x first : Session) → 16 ≤ n → left 0 first false ≡ leftAt n x first
+unfolding leftAt
+left-far n x first h = ap (λ (z : Bool). cond z (left n x false) (left 0 first false)) (sym (le-ltb n 16 h))
+
+pub left-anew : (first : Session) (z z′ : Bool) → z ≡ z′ → left 0 first z ≡ left 0 first z′
+left-anew first z z′ e = ap (left 0 first) e
+
+-- which answers are no refusal
+module _ (answer : core.Answer) where
+  accepts-as : (x : core.Answer) → answer ≡ x → accepts (said x) ≡ accepts (said answer)
+  accepts-as x e = ap (λ (y : core.Answer). accepts (said y)) (sym e)
+
+  pub accepts-no : (why : Refusal) → answer ≡ No why → false ≡ accepts (said answer)
+  unfolding accepts
+  accepts-no why e = accepts-as (No why) e
+
+  pub accepts-count : (n : ℕ) → answer ≡ Count n → true ≡ accepts (said answer)
+  unfolding accepts
+  accepts-count n e = accepts-as (Count n) e
+
+  pub accepts-at : (x : Stamp) (n : Row) → answer ≡ At x n → true ≡ accepts (said answer)
+  unfolding accepts
+  accepts-at x n e = accepts-as (At x n) e
+
+  pub accepts-read : (x : Standing) → answer ≡ Read x → true ≡ accepts (said answer)
+  unfolding accepts
+  accepts-read x e = accepts-as (Read x) e
+
+  pub accepts-listed : (n : ℕ) (due : Bool) (p : Place) → answer ≡ Listed n due p → true ≡ accepts (said answer)
+  unfolding accepts
+  accepts-listed n due p e = accepts-as (Listed n due p) e
+
 -- ---- the call of each word
 
-module _ (t t′ : Tables) (s column : List ℕ) (wish : Request) (a : Said) where
+module _ (clock₀ slots₀ ws₀ heads₀ log₀ changes₀ clock slots ws heads log changes : List ℕ) (ts : List Session)
+    (s column : List ℕ) (wish : Request) (answer told : core.Answer) (d : Session) (l : Left) where
+  abbrev t : Tables
+  t = tables clock₀ slots₀ ws₀ heads₀ log₀ changes₀ ts
+
+  abbrev after : List Session → Tables
+  after = tables clock slots ws heads log changes
+
+  abbrev Done : List ℕ → Type 0
+  Done s′ = Turned t (after (leaves ts l)) s s′ (asked wish column) (said answer)
+
   -- what the request asks for, by its word
   by-word : (w : Word) → wish .word ≡ w → turnOf t s (asked wish column) ≡ turnOf t s (askedBy w (wish .a) (wish .b) (wish .c) column)
   unfolding asked
   by-word w e = ap (λ (v : Word). turnOf t s (askedBy v (wish .a) (wish .b) (wish .c) column)) e
 
-  abbrev Done : Type 0
-  Done = Turned t t′ s s (asked wish column) a
+  -- a call that left these sessions
+  turns : (us : List Session) (bs : List (List ℕ)) (k : Ask) → outcome (after us) bs (said told) ≡ comesTo t k → answer ≡ told
+      → leaves ts l ≡ us → turnOf t s (asked wish column) ≡ made t s k → Done (scratchAfter s bs)
+  turns us bs k e a f c =
+      call-turns t (after (leaves ts l)) bs (said answer) s k (asked wish column)
+      (ap₂ (λ (vs : List Session) (b : core.Answer). outcome (after vs) bs (said b)) f a ∙ e) c
 
-  pub create-turns : wish .word ≡ word.Column → outcome t′ [] a ≡ createOf t (wish .a) (take (wish .b) column) → Done
+  pub create-turns : length ts ≡ 16 → wish .word ≡ word.Column
+      → outcome (after (allFreed ts (accepts (said told)))) [] (said told) ≡ createOf t (wish .a) (take (wish .b) column) → answer ≡ told
+      → l ≡ left 0 (getD ts 0 d) (accepts (said told)) → Done s
   unfolding askedBy turnOf askWith scratchAfter
-  create-turns p e =
-      call-turns t t′ [] a s (create (wish .a) (take (wish .b) column)) (asked wish column) e
+  create-turns n p e a f =
+      turns (allFreed ts (accepts (said told))) [] (create (wish .a) (take (wish .b) column)) e a (ap (leaves ts) f ∙ all-left ts d _ n)
       (by-word word.Column p ∙ ap (λ (col : List ℕ). made t s (create (wish .a) col)) (bytes-again (take (wish .b) column)))
 
-  pub begin-turns : wish .word ≡ word.Begin → outcome t′ [] a ≡ beginOf t (wish .a) → Done
-  unfolding askedBy turnOf askWith scratchAfter
-  begin-turns p e = call-turns t t′ [] a s (begin (wish .a)) (asked wish column) e (by-word word.Begin p)
+  pub none-turns : wish .word ≡ word.Unknown → said answer ≡ no 19 → l ≡ left 0 (getD ts 0 d) false
+      → Turned t (tables clock₀ slots₀ ws₀ heads₀ log₀ changes₀ (leaves ts l)) s s (asked wish column) (said answer)
+  unfolding askedBy turnOf heardFrom
+  none-turns p a f =
+      ap₂ (λ (us : List Session) (b : Said). turn (tables clock₀ slots₀ ws₀ heads₀ log₀ changes₀ us) s (heardFrom ws₀ s b))
+      (ap (leaves ts) f ∙ first-stands ts d) a ∙ sym (by-word word.Unknown p)
 
-  pub query-turns : (s′ : List ℕ) → wish .word ≡ word.Query → outcome t′ (s′ ∷ []) a ≡ queryOf t s (wish .a) (wish .b) 8
-      → Turned t t′ s s′ (asked wish column) a
-  unfolding askedBy turnOf askWith scratchAfter usualThreshold
-  query-turns s′ p e = call-turns t t′ (s′ ∷ []) a s (query s (wish .a) (wish .b) 8) (asked wish column) e (by-word word.Query p)
+  module _ (x : Session) where
+    -- a call about session a that came to this
+    abbrev About : List (List ℕ) → Outcome → Type 0
+    About bs o = outcome (after (putAt ts (wish .a) x)) bs (said told) ≡ o
 
-  pub read-turns : wish .word ≡ word.Read → outcome t′ [] a ≡ readOf t (wish .a) (wish .b) → Done
-  unfolding askedBy turnOf askWith scratchAfter
-  read-turns p e = call-turns t t′ [] a s (read (wish .a) (wish .b)) (asked wish column) e (by-word word.Read p)
+    one : (bs : List (List ℕ)) (k : Ask) → About bs (comesTo t k) → answer ≡ told → l ≡ leftAt (wish .a) x (getD ts 0 d)
+        → turnOf t s (asked wish column) ≡ made t s k → Done (scratchAfter s bs)
+    one bs k e a f c = turns (putAt ts (wish .a) x) bs k e a (ap (leaves ts) f ∙ one-left ts d (wish .a) x) c
 
-  pub update-turns : wish .word ≡ word.Update → outcome t′ [] a ≡ updateOf t (wish .a) (wish .b) (wish .c) → Done
-  unfolding askedBy turnOf askWith scratchAfter
-  update-turns p e = call-turns t t′ [] a s (update (wish .a) (wish .b) (wish .c)) (asked wish column) e (by-word word.Update p)
+    pub query-turns : (s′ : List ℕ) → wish .word ≡ word.Query → About (s′ ∷ []) (queryOf t s (wish .a) (wish .b) 8) → answer ≡ told
+        → l ≡ leftAt (wish .a) x (getD ts 0 d) → Done s′
+    unfolding askedBy turnOf askWith scratchAfter usualThreshold
+    query-turns s′ p e a f = one (s′ ∷ []) (query s (wish .a) (wish .b) 8) e a f (by-word word.Query p)
 
-  pub delete-turns : wish .word ≡ word.Delete → outcome t′ [] a ≡ deleteOf t (wish .a) (wish .b) → Done
-  unfolding askedBy turnOf askWith scratchAfter
-  delete-turns p e = call-turns t t′ [] a s (delete (wish .a) (wish .b)) (asked wish column) e (by-word word.Delete p)
+    pub begin-turns : wish .word ≡ word.Begin → About [] (beginOf t (wish .a)) → answer ≡ told → l ≡ leftAt (wish .a) x (getD ts 0 d) → Done s
+    unfolding askedBy turnOf askWith scratchAfter
+    begin-turns p e a f = one [] (begin (wish .a)) e a f (by-word word.Begin p)
 
-  pub insert-turns : wish .word ≡ word.Insert → outcome t′ [] a ≡ insertOf t (wish .a) (wish .b) → Done
-  unfolding askedBy turnOf askWith scratchAfter
-  insert-turns p e = call-turns t t′ [] a s (insert (wish .a) (wish .b)) (asked wish column) e (by-word word.Insert p)
+    pub read-turns : wish .word ≡ word.Read → About [] (readOf t (wish .a) (wish .b)) → answer ≡ told → l ≡ leftAt (wish .a) x (getD ts 0 d) → Done s
+    unfolding askedBy turnOf askWith scratchAfter
+    read-turns p e a f = one [] (read (wish .a) (wish .b)) e a f (by-word word.Read p)
 
-  pub commit-turns : wish .word ≡ word.Commit → outcome t′ [] a ≡ commitOf t (wish .a) → Done
-  unfolding askedBy turnOf askWith scratchAfter
-  commit-turns p e = call-turns t t′ [] a s (commit (wish .a)) (asked wish column) e (by-word word.Commit p)
+    pub update-turns : wish .word ≡ word.Update → About [] (updateOf t (wish .a) (wish .b) (wish .c)) → answer ≡ told → l ≡ leftAt (wish .a) x (getD ts 0 d) → Done s
+    unfolding askedBy turnOf askWith scratchAfter
+    update-turns p e a f = one [] (update (wish .a) (wish .b) (wish .c)) e a f (by-word word.Update p)
 
-  pub tidy-turns : wish .word ≡ word.Tidy → outcome t′ [] a ≡ tidyOf t (wish .a) (wish .b) → Done
-  unfolding askedBy turnOf askWith scratchAfter
-  tidy-turns p e = call-turns t t′ [] a s (tidy (wish .a) (wish .b)) (asked wish column) e (by-word word.Tidy p)
+    pub delete-turns : wish .word ≡ word.Delete → About [] (deleteOf t (wish .a) (wish .b)) → answer ≡ told → l ≡ leftAt (wish .a) x (getD ts 0 d) → Done s
+    unfolding askedBy turnOf askWith scratchAfter
+    delete-turns p e a f = one [] (delete (wish .a) (wish .b)) e a f (by-word word.Delete p)
 
-  pub abort-turns : wish .word ≡ word.Abort → outcome t′ [] a ≡ abortOf t (wish .a) → Done
-  unfolding askedBy turnOf askWith scratchAfter
-  abort-turns p e = call-turns t t′ [] a s (abort (wish .a)) (asked wish column) e (by-word word.Abort p)
+    pub insert-turns : wish .word ≡ word.Insert → About [] (insertOf t (wish .a) (wish .b)) → answer ≡ told → l ≡ leftAt (wish .a) x (getD ts 0 d) → Done s
+    unfolding askedBy turnOf askWith scratchAfter
+    insert-turns p e a f = one [] (insert (wish .a) (wish .b)) e a f (by-word word.Insert p)
 
--- a line that is none
-pub none-turns : (clock slots ws heads log changes : List ℕ) (ts us : List Session) (s column : List ℕ) (wish : Request) (a : Said)
-    → wish .word ≡ word.Unknown → (us ≡ ts) × (a ≡ no 19)
-    → Turned (tables clock slots ws heads log changes ts) (tables clock slots ws heads log changes us) s s (asked wish column) a
-unfolding askedBy turnOf heardFrom
-none-turns clock slots ws heads log changes ts us s column wish a p h =
-    let lent = tables clock slots ws heads log changes in
-    ap₂ (λ (vs : List Session) (b : Said). turn (lent vs) s (heardFrom ws s b)) (h .0) (h .1)
-    ∙ sym (by-word (lent ts) (lent us) s column wish a word.Unknown p)
+    pub commit-turns : wish .word ≡ word.Commit → About [] (commitOf t (wish .a)) → answer ≡ told → l ≡ leftAt (wish .a) x (getD ts 0 d) → Done s
+    unfolding askedBy turnOf askWith scratchAfter
+    commit-turns p e a f = one [] (commit (wish .a)) e a f (by-word word.Commit p)
+
+    pub tidy-turns : wish .word ≡ word.Tidy → About [] (tidyOf t (wish .a) (wish .b)) → answer ≡ told → l ≡ leftAt (wish .a) x (getD ts 0 d) → Done s
+    unfolding askedBy turnOf askWith scratchAfter
+    tidy-turns p e a f = one [] (tidy (wish .a) (wish .b)) e a f (by-word word.Tidy p)
+
+    pub abort-turns : wish .word ≡ word.Abort → About [] (abortOf t (wish .a)) → answer ≡ told → l ≡ leftAt (wish .a) x (getD ts 0 d) → Done s
+    unfolding askedBy turnOf askWith scratchAfter
+    abort-turns p e a f = one [] (abort (wish .a)) e a f (by-word word.Abort p)
 
 -- sixteen free sessions
 pub free-each : (x : Session) → x ≡ freed → replicate 16 x ≡ replicate 16 freed

@@ -24,7 +24,8 @@ fn put_standing(out: &mut [u8], found: Standing) -> usize
 // An answer; a query's rows are those of the words at its place.
 fn put_answer<'a>(out: &mut [u8], answer: Answer, words: &'a [u64], scratch: &'a [u64]) -> usize
     requires { ⌜ 10275 ≤ length (now out) ⌝ }
-    ensures { λ r. ⌜ Answered (now (out .entry)) (heardFrom (now (words .entry)) (now (scratch .entry)) (said answer)) (now (out .exit)) r 10275 ⌝ }
+    ensures { λ r. ⌜ Answered (now (out .entry)) (heardFrom (now (words .entry)) (now (scratch .entry)) (said answer))
+        (now (out .exit)) r 10275 ⌝ }
 {
     match answer {
         Answer::No(why) => writing::put_no(out, tables::number(why)),
@@ -41,7 +42,8 @@ fn put_answer<'a>(out: &mut [u8], answer: Answer, words: &'a [u64], scratch: &'a
 // An answer and a newline.
 pub fn put_line<'a>(out: &mut [u8], answer: Answer, words: &'a [u64], scratch: &'a [u64]) -> usize
     requires { ⌜ 10276 ≤ length (now out) ⌝ }
-    ensures { λ r. ⌜ PutLine (now (out .entry)) (heardFrom (now (words .entry)) (now (scratch .entry)) (said answer)) (now (out .exit)) r ⌝ }
+    ensures { λ r. ⌜ PutLine (now (out .entry)) (heardFrom (now (words .entry)) (now (scratch .entry)) (said answer))
+        (now (out .exit)) r ⌝ }
 {
     let n = put_answer(out, answer, words, scratch);
     writing::put_end(out, n)

@@ -6,6 +6,7 @@ mod turns;
 
 pub use door::Sessions;
 pub use one_line::line;
+pub use sessions::Left;
 pub use sessions::Lined;
 pub use sessions::all_free;
 pub use sessions::nothing;

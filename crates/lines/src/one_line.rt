@@ -7,11 +7,12 @@ use door::Sessions;
 use text::Request;
 use text::Word;
 ghost use mathlib.Core.Path.{_≡_};
-ghost use Prim.Native.Nat.{_≤_};
+ghost use Prim.Native.Nat.{_<_, _≤_};
 ghost use lib.ListN.{length};
 ghost use Rattle.tables.specs.Cells.{tables};
 ghost use Rattle.text.specs.Asked.{Requested};
 ghost use Rattle.text.specs.Parse.{parse};
+ghost use Rattle.lines.specs.Left.{leaves};
 ghost use Rattle.lines.specs.Turn.{turnOf};
 ghost use Rattle.lines.specs.Line.{lineOutcome, lineOf, written};
 
@@ -46,8 +47,13 @@ fn line_in(
     out: &mut [u8],
 ) -> Lined
     requires { ⌜ (4096 ≤ length (now column)) × (10276 ≤ length (now out)) ⌝ }
-    ensures { λ r. ⌜ lineOutcome (tables (now (clock .exit)) (now (slots .exit)) (now (words .exit)) (now (heads .exit)) (now (log .exit)) (now (changes .exit)) (r .sessions .at)) (now (scratch .exit)) (now (column .exit)) (now (out .exit)) (r .len) ≡ written (turnOf (tables (now (clock .entry)) (now (slots .entry)) (now (words .entry)) (now (heads .entry)) (now (log .entry)) (now (changes .entry)) (all .at)) (now (scratch .entry)) (parse (now (bytes .entry)))) (now (bytes .entry)) (now (column .entry)) (now (out .entry)) ⌝ }
-    ensures { λ r. ⌜ r .len ≤ 10276 ⌝ }
+    ensures { λ r. ⌜ lineOutcome (tables (now (clock .exit)) (now (slots .exit)) (now (words .exit)) (now (heads .exit)) (now (log .exit))
+        (now (changes .exit)) (leaves (all .at) (r .left)))
+        (now (scratch .exit)) (now (column .exit)) (now (out .exit)) (r .len) ≡ written
+        (turnOf (tables (now (clock .entry)) (now (slots .entry)) (now (words .entry)) (now (heads .entry)) (now (log .entry))
+        (now (changes .entry)) (all .at))
+        (now (scratch .entry)) (parse (now (bytes .entry)))) (now (bytes .entry)) (now (column .entry)) (now (out .entry)) ⌝ }
+    ensures { λ r. ⌜ (r .len ≤ 10276) × (r .left .place < 16) ⌝ }
 {
     let wish = wish_of(bytes, column);
     let d = turns::turn(
@@ -63,17 +69,17 @@ fn line_in(
         wish,
     );
     let answer = d.answer;
-    let at = d.at;
+    let left = d.left;
     let len = answers::put_line(out, answer, words, scratch);
     Lined {
         len: len,
-        sessions: Sessions { at: at },
+        left: left,
     }
 }
 
 // A line, without its newline, is answered: the tables and the scratch are changed, and the answer with a newline stands at
 // the front of `out`. A column's values go through `column`. Where one of the two buffers is too short for some line
-// (10,276 and 4,096 bytes), nothing is done, and the answer has no byte.
+// (10,276 and 4,096 bytes), nothing is done, and the answer has no byte. What is left of the sessions is handed back.
 pub fn line(
     clock: &mut [u32],
     slots: &mut [u32],
@@ -87,14 +93,20 @@ pub fn line(
     bytes: &[u8],
     out: &mut [u8],
 ) -> Lined
-    ensures { λ r. ⌜ lineOutcome (tables (now (clock .exit)) (now (slots .exit)) (now (words .exit)) (now (heads .exit)) (now (log .exit)) (now (changes .exit)) (r .sessions .at)) (now (scratch .exit)) (now (column .exit)) (now (out .exit)) (r .len) ≡ lineOf (tables (now (clock .entry)) (now (slots .entry)) (now (words .entry)) (now (heads .entry)) (now (log .entry)) (now (changes .entry)) (all .at)) (now (scratch .entry)) (now (column .entry)) (now (out .entry)) (now (bytes .entry)) ⌝ }
-    ensures { λ r. ⌜ r .len ≤ 10276 ⌝ }
+    ensures { λ r. ⌜ lineOutcome (tables (now (clock .exit)) (now (slots .exit)) (now (words .exit)) (now (heads .exit)) (now (log .exit))
+        (now (changes .exit)) (leaves (all .at) (r .left)))
+        (now (scratch .exit)) (now (column .exit)) (now (out .exit)) (r .len) ≡ lineOf
+        (tables (now (clock .entry)) (now (slots .entry)) (now (words .entry)) (now (heads .entry)) (now (log .entry))
+        (now (changes .entry)) (all .at))
+        (now (scratch .entry)) (now (column .entry)) (now (out .entry)) (now (bytes .entry)) ⌝ }
+    ensures { λ r. ⌜ (r .len ≤ 10276) × (r .left .place < 16) ⌝ }
 {
+    let first = all.at[0];
     if column.len() < 4096 {
-        return nothing(all);
+        return nothing(first);
     }
     if out.len() < 10276 {
-        return nothing(all);
+        return nothing(first);
     }
     line_in(
         clock,

@@ -1,27 +1,84 @@
 // What a line asks for is done, by the public call of its word.
+use crate::sessions::Left;
+use crate::sessions::left_at;
 use calls::Answer;
 use door::Held;
 use door::Sessions;
 use tables::Refusal;
+use tables::Session;
 use text::Request;
 use text::Word;
 ghost use mathlib.Core.Path.{_≡_};
-ghost use Prim.Native.Nat.{_≤_};
+ghost use mathlib.Core.Bool.{false};
+ghost use Prim.Native.Nat.{_<_, _≤_};
 ghost use lib.ListN.{length};
 ghost use Rattle.tables.specs.Cells.{tables};
 ghost use Rattle.text.specs.declared.words.Word.the-variants.{Column};
 ghost use Rattle.text.specs.Asked.{asked};
 ghost use Rattle.calls.specs.Said.{said, no};
+ghost use Rattle.door.specs.Accepts.{accepts};
+ghost use Rattle.lines.specs.Left.{left, leaves, leftAt};
 ghost use Rattle.lines.specs.Turn.{Turned};
 
+// What a request comes to beside the lent tables: its answer, and what it leaves of the sessions.
+pub struct Done {
+    pub answer: Answer,
+    pub left: Left,
+}
+
 // No call is made.
-fn unreadable(all: Sessions) -> Held
-    ensures { λ r. ⌜ (r .at ≡ all .at) × (said (r .answer) ≡ no 19) ⌝ }
+fn unreadable(first: Session) -> Done
+    ensures { λ r. ⌜ (said (r .answer) ≡ no 19) × (r .left ≡ left 0 first false) × (r .left .place < 16) ⌝ }
 {
-    let at = all.at;
-    Held {
+    let left = Left {
+        place: 0,
+        session: first,
+        anew: false,
+    };
+    Done {
         answer: Answer::No(Refusal::Unreadable),
-        at: at,
+        left: left,
+    }
+}
+
+// A call about session n.
+fn about(n: u64, d: Held, first: Session) -> Done
+    ensures { λ r. ⌜ (r .answer ≡ d .answer) × (r .left ≡ leftAt n (d .session) first) × (r .left .place < 16) ⌝ }
+{
+    let answer = d.answer;
+    let session = d.session;
+    let left = left_at(n, session, first);
+    Done {
+        answer: answer,
+        left: left,
+    }
+}
+
+// Whether an answer is no refusal.
+fn accepted(answer: Answer) -> bool
+    ensures { λ r. ⌜ r ≡ accepts (said answer) ⌝ }
+{
+    match answer {
+        Answer::No(why) => false,
+        Answer::Count(n) => true,
+        Answer::At(s, n) => true,
+        Answer::Read(found) => true,
+        Answer::Listed(flips, due, place) => true,
+    }
+}
+
+// A create: where it was accepted, all sessions are free.
+fn created(answer: Answer, first: Session) -> Done
+    ensures { λ r. ⌜ (r .answer ≡ answer) × (r .left ≡ left 0 first (accepts (said answer))) × (r .left .place < 16) ⌝ }
+{
+    let left = Left {
+        place: 0,
+        session: first,
+        anew: accepted(answer),
+    };
+    Done {
+        answer: answer,
+        left: left,
     }
 }
 
@@ -37,17 +94,23 @@ pub fn turn(
     scratch: &mut [u64],
     column: &[u8],
     wish: Request,
-) -> Held
+) -> Done
     requires { ⌜ (wish .word ≡ Column → wish .b ≤ length (now column)) ⌝ }
-    ensures { λ r. ⌜ Turned (tables (now (clock .entry)) (now (slots .entry)) (now (words .entry)) (now (heads .entry)) (now (log .entry)) (now (changes .entry)) (all .at)) (tables (now (clock .exit)) (now (slots .exit)) (now (words .exit)) (now (heads .exit)) (now (log .exit)) (now (changes .exit)) (r .at)) (now (scratch .entry)) (now (scratch .exit)) (asked wish (now (column .entry))) (said (r .answer)) ⌝ }
+    ensures { λ r. ⌜ Turned (tables (now (clock .entry)) (now (slots .entry)) (now (words .entry)) (now (heads .entry)) (now (log .entry))
+        (now (changes .entry)) (all .at))
+        (tables (now (clock .exit)) (now (slots .exit)) (now (words .exit)) (now (heads .exit)) (now (log .exit))
+        (now (changes .exit)) (leaves (all .at) (r .left)))
+        (now (scratch .entry)) (now (scratch .exit)) (asked wish (now (column .entry))) (said (r .answer)) ⌝ }
+    ensures { λ r. ⌜ r .left .place < 16 ⌝ }
 {
+    let first = all.at[0];
     let word = wish.word;
     let a = wish.a;
     let b = wish.b;
     match word {
         Word::Column => {
             let n = b as usize;
-            door::create_held(
+            let answer = door::create_held(
                 clock,
                 slots,
                 words,
@@ -57,40 +120,57 @@ pub fn turn(
                 all,
                 a,
                 &column[..n],
-            )
+            );
+            created(answer, first)
         }
-        Word::Begin => door::begin_held(clock, slots, words, heads, log, changes, all, a),
-        Word::Query => door::query_held(
-            clock,
-            slots,
-            words,
-            heads,
-            log,
-            changes,
-            all,
-            scratch,
-            a,
-            b,
-            8,
-        ),
-        Word::Read => door::read_held(clock, slots, words, heads, log, changes, all, a, b),
-        Word::Update => door::update_held(
-            clock,
-            slots,
-            words,
-            heads,
-            log,
-            changes,
-            all,
-            a,
-            b,
-            wish.c,
-        ),
-        Word::Delete => door::delete_held(clock, slots, words, heads, log, changes, all, a, b),
-        Word::Insert => door::insert_held(clock, slots, words, heads, log, changes, all, a, b),
-        Word::Commit => door::commit_held(clock, slots, words, heads, log, changes, all, a),
-        Word::Tidy => door::tidy_held(clock, slots, words, heads, log, changes, all, a, b),
-        Word::Abort => door::abort_held(clock, slots, words, heads, log, changes, all, a),
-        Word::Unknown => unreadable(all),
+        Word::Begin => {
+            let d = door::begin_held(clock, slots, words, heads, log, changes, all, a);
+            about(a, d, first)
+        }
+        Word::Query => {
+            let d = door::query_held(
+                clock,
+                slots,
+                words,
+                heads,
+                log,
+                changes,
+                all,
+                scratch,
+                a,
+                b,
+                8,
+            );
+            about(a, d, first)
+        }
+        Word::Read => {
+            let d = door::read_held(clock, slots, words, heads, log, changes, all, a, b);
+            about(a, d, first)
+        }
+        Word::Update => {
+            let d = door::update_held(clock, slots, words, heads, log, changes, all, a, b, wish.c);
+            about(a, d, first)
+        }
+        Word::Delete => {
+            let d = door::delete_held(clock, slots, words, heads, log, changes, all, a, b);
+            about(a, d, first)
+        }
+        Word::Insert => {
+            let d = door::insert_held(clock, slots, words, heads, log, changes, all, a, b);
+            about(a, d, first)
+        }
+        Word::Commit => {
+            let d = door::commit_held(clock, slots, words, heads, log, changes, all, a);
+            about(a, d, first)
+        }
+        Word::Tidy => {
+            let d = door::tidy_held(clock, slots, words, heads, log, changes, all, a, b);
+            about(a, d, first)
+        }
+        Word::Abort => {
+            let d = door::abort_held(clock, slots, words, heads, log, changes, all, a);
+            about(a, d, first)
+        }
+        Word::Unknown => unreadable(first),
     }
 }

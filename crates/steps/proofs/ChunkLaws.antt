@@ -1,7 +1,7 @@
 -- The lines of a chunk, answered one after another as far as there is room.
 -- Assumes nothing.
 use mathlib.Core.Path.{_≡_, refl, sym, ap, ap₂, _∙_}
-use mathlib.Core.Bool.{Bool, true, false, _&&_}
+use mathlib.Core.Bool.{Bool, true, false, _&&_, and-eq-true-iff}
 use mathlib.Core.List.{List, [], _++_, map, append-assoc, append-nil}
 use mathlib.Core.Logic.{_⊎_, inl, inr}
 use Prim.Native.Nat.{ℕ, _+_, _-_, _<_, _≤_}
@@ -118,16 +118,11 @@ module _ {bytes : List ℕ} {s₀ : Spot} {d d′ : Desk} {pending pending′ ou
 -- ---- the loop's test
 
 module _ (at n filled room : ℕ) (more : Bool) (e : more ≡ ltb at n && leb 10276 (room - filled)) where
-  both : (a b : Bool) → true ≡ a && b → (a ≡ true) × (b ≡ true)
-  both true true q = (refl, refl)
-  both true false q = absurd (let z : _≡_ {A = ℕ} 0 1 = cc in omega (arith, z))
-  both false b q = absurd (let z : _≡_ {A = ℕ} 0 1 = cc in omega (arith, z))
-
   more-left : more ≡ true → at < n
-  more-left t = ltb-true at n (both (ltb at n) (leb 10276 (room - filled)) (sym t ∙ e) .0)
+  more-left t = ltb-true at n (and-eq-true-iff (ltb at n) (leb 10276 (room - filled)) .0 (sym e ∙ t) .0)
 
   more-room : more ≡ true → filled ≤ room → filled + 10276 ≤ room
-  more-room t l = omega (arith, l, leb-true 10276 (room - filled) (both (ltb at n) (leb 10276 (room - filled)) (sym t ∙ e) .1))
+  more-room t l = omega (arith, l, leb-true 10276 (room - filled) (and-eq-true-iff (ltb at n) (leb 10276 (room - filled)) .0 (sym e ∙ t) .1))
 
   no-more : more ≡ false → filled ≤ room → at < n → room < filled + 10276
   no-more t l h =
@@ -149,27 +144,12 @@ answers-all bytes s₀ s more c e t =
 
 -- ---- the loop's head
 
--- the lent tables and the column's buffer keep their lengths, and the code has come to the spot s
-pub record Going (bytes clock₀ slots₀ words₀ heads₀ log₀ changes₀ scratch₀ column₀ clock slots words heads log changes scratch column
-    : List ℕ) (s₀ s : Spot) (more : Bool) : Type 0 where
-  pub clock-same : length clock ≡ length clock₀
-  pub slots-same : length slots ≡ length slots₀
-  pub words-same : length words ≡ length words₀
-  pub heads-same : length heads ≡ length heads₀
-  pub log-same : length log ≡ length log₀
-  pub changes-same : length changes ≡ length changes₀
-  pub scratch-same : length scratch ≡ length scratch₀
-  pub column-same : length column ≡ length column₀
-  pub pending-same : length (s .pending) ≡ length (s₀ .pending)
-  pub out-same : length (s .out) ≡ length (s₀ .out)
-  pub wide : 4096 ≤ length column
+-- the code has come to the spot s, and goes on from there or not
+pub record Going (bytes : List ℕ) (s₀ s : Spot) (more : Bool) : Type 0 where
   pub came : Comes bytes s₀ s
   pub test : more ≡ ltb (s .at) (length bytes) && leb 10276 (length (s .out) - s .filled)
 
-module _ {bytes clock₀ slots₀ words₀ heads₀ log₀ changes₀ scratch₀ column₀ clock slots words heads log changes scratch column : List ℕ}
-    {s₀ s : Spot} {more : Bool}
-    (g : Going bytes clock₀ slots₀ words₀ heads₀ log₀ changes₀ scratch₀ column₀ clock slots words heads log changes scratch column s₀ s
-    more) where
+module _ {bytes : List ℕ} {s₀ s : Spot} {more : Bool} (g : Going bytes s₀ s more) where
   pub going-left : more ≡ true → s .at < length bytes
   going-left t = more-left (s .at) (length bytes) (s .filled) (length (s .out)) more (g .test) t
 

@@ -1,8 +1,8 @@
 -- Chunk after chunk, from the first byte to the end of the input.
 -- Assumes nothing.
 use mathlib.Core.Path.{_≡_, refl, sym, ap, ap₂, subst, _∙_}
-use mathlib.Core.Bool.{Bool, true, false, not, _&&_}
-use mathlib.Core.List.{List, [], _∷_, _++_, map}
+use mathlib.Core.Bool.{Bool, true, false, _&&_, and-eq-true-iff, true≢false}
+use mathlib.Core.List.{List, [], _∷_, _++_, map, append-assoc}
 use mathlib.Core.Logic.{_⊎_, inl, inr}
 use Prim.Native.Nat.{ℕ, _+_, _<_, _≤_}
 use native.Mathlib.Omega.{arith}
@@ -18,35 +18,17 @@ use Rattle.text.specs.Parse.{longestLine}
 use Rattle.text.specs.Lines.{lastLine, linesOf}
 use Rattle.text.specs.Feed.{cut, pend}
 use Rattle.text.proofs.Chunks.{cut-append, pend-append, cut-same, pend-same, held-append, last-held, one-chunk}
-use Rattle.steps.specs.declared.watch.Watch.{Watch}
-use Rattle.steps.specs.declared.ends.Told.{Told}
-use Rattle.steps.specs.Watch.{fresh, watched}
+use Rattle.ends.specs.declared.watch.Watch.{Watch}
+use Rattle.ends.specs.declared.Told.{Told}
+use Rattle.ends.specs.Watch.{fresh, watched}
 use Rattle.steps.specs.Desk.{Desk, desk, afterLines, answersOf}
 use Rattle.steps.specs.Answers.{linesLeft, pendingLeft, Spot, spot, Answers}
-use Rattle.steps.specs.Ends.{Taken, Handed}
+use Rattle.ends.specs.Ends.{Taken, Handed}
 use Rattle.steps.specs.Program.{Does, Through, Read, Ends, Blank, zeros, blank, freshTold, Program}
 use Rattle.steps.proofs.ReplyLaws.{answers-append, after-append}
-use Rattle.steps.proofs.WatchLaws.{watched-append}
-use Rattle.steps.proofs.EndsLaws.{both-first, both-second, taken-none, taken-more}
+use Rattle.ends.proofs.WatchLaws.{watched-append}
+use Rattle.ends.proofs.EndsLaws.{taken-none, taken-more}
 use Rattle.steps.proofs.DoesLaws.{does-none, does-more, does-failed, does-less, does-held}
-
--- ---- the heads of the loops
-
--- the lent tables and the buffers keep their lengths, and there is room for a column and for an answer
-pub record Kept (clock₀ slots₀ words₀ heads₀ log₀ changes₀ scratch₀ column₀ pending₀ out₀ clock slots words heads log changes scratch column
-    pending out : List ℕ) : Type 0 where
-  pub clock-same : length clock ≡ length clock₀
-  pub slots-same : length slots ≡ length slots₀
-  pub words-same : length words ≡ length words₀
-  pub heads-same : length heads ≡ length heads₀
-  pub log-same : length log ≡ length log₀
-  pub changes-same : length changes ≡ length changes₀
-  pub scratch-same : length scratch ≡ length scratch₀
-  pub column-same : length column ≡ length column₀
-  pub pending-same : length pending ≡ length pending₀
-  pub out-same : length out ≡ length out₀
-  pub wide : 4096 ≤ length column
-  pub roomy : 10276 ≤ length out
 
 -- ---- a whole chunk, piece by piece
 
@@ -88,10 +70,10 @@ module _ {bytes : List ℕ} {d₀ : Desk} {pending₀ : List ℕ} {len₀ : ℕ}
     {told : Told} {well more : Bool}
     (g : Along bytes d₀ pending₀ len₀ told₀ d pending len filled at told well more) where
   pub along-well : more ≡ true → well ≡ true
-  along-well t = both-first well (ltb at (length bytes)) (sym (g .test) ∙ t)
+  along-well t = and-eq-true-iff well (ltb at (length bytes)) .0 (sym (g .test) ∙ t) .0
 
   pub along-left : more ≡ true → at < length bytes
-  along-left t = ltb-true at (length bytes) (both-second well (ltb at (length bytes)) (sym (g .test) ∙ t))
+  along-left t = ltb-true at (length bytes) (and-eq-true-iff well (ltb at (length bytes)) .0 (sym (g .test) ∙ t) .1)
 
   module _ {out out′ : List ℕ} {d′ : Desk} {pending′ : List ℕ} {len′ filled′ at′ : ℕ}
       (a : Answers bytes (spot d pending len out filled at) (spot d′ pending′ len′ out′ filled′ at′)) where
@@ -109,7 +91,7 @@ module _ {bytes : List ℕ} {d₀ : Desk} {pending₀ : List ℕ} {len₀ : ℕ}
         let here : take filled′ out′ ≡ answersOf (afterLines d₀ (g .first)) new = said ∙ ap (λ (x : Desk). answersOf x new) (g .desk-is) in
         record {
           first = g .first ++ new;
-          lines-are = g .lines-are ∙ ap (λ (l : List (List ℕ)). g .first ++ l) (a .comes .lines-are) ∙ sym (append-all (g .first) new _);
+          lines-are = g .lines-are ∙ ap (λ (l : List (List ℕ)). g .first ++ l) (a .comes .lines-are) ∙ sym (append-assoc (g .first) new _);
           desk-is = a .comes .desk-is ∙ ap (λ (x : Desk). afterLines x new) (g .desk-is) ∙ sym (after-append d₀ (g .first) new);
           handed-is =
               e .handed-is
@@ -126,10 +108,6 @@ module _ {bytes : List ℕ} {d₀ : Desk} {pending₀ : List ℕ} {len₀ : ℕ}
           within = a .comes .fits .within;
           test = q;
         }
-      where
-        append-all : (xs ys zs : List (List ℕ)) → (xs ++ ys) ++ zs ≡ xs ++ (ys ++ zs)
-        append-all [] ys zs = refl
-        append-all (x ∷ xs) ys zs = rw (append-all xs ys zs)
 
   -- nothing is left at the end
   module _ (t : more ≡ false) (w : well ≡ true) where
@@ -229,8 +207,8 @@ module _ {d : Desk} {p : List ℕ} {len : ℕ} {h : Watch} {t : Told} where
         heard-is = a .heard-is;
         through =
             record {
-              does = does-less (λ e. both-first well b e) (a .through .does);
-              pending-is = λ e. a .through .pending-is (both-first well b e);
+              does = does-less (λ e. and-eq-true-iff well b .0 e .0) (a .through .does);
+              pending-is = λ e. a .through .pending-is (and-eq-true-iff well b .0 e .0);
               pending-room = a .through .pending-room;
               fits = a .through .fits;
             };
@@ -255,15 +233,15 @@ module _ {d : Desk} {p : List ℕ} {len : ℕ} {t : Told} where
       → Through (10 ∷ []) d p len t d′ p′ len′ t′ well′ → Ends d p len t well d′ t′ well′
   unfolding cut lastLine
   ends-line {d′} {p′} {len′} {t′} {well′} well e l a =
-      let w : well ≡ true = both-first well (ltb 0 len) e in
+      let w : well ≡ true = and-eq-true-iff well (ltb 0 len) .0 e .0 in
       let one : take (length p) (take len p) ∷ [] ≡ lastLine (take len p) =
       ap (λ (q : List ℕ). q ∷ []) (take-all (length p) (take len p) (omega (arith, l, length-take len p)))
-      ∙ sym (some (take len p) (omega (arith, l, length-take len p, ltb-true 0 len (both-second well (ltb 0 len) e)))) in
+      ∙ sym (some (take len p) (omega (arith, l, length-take len p, ltb-true 0 len (and-eq-true-iff well (ltb 0 len) .0 e .1)))) in
       record {
         does = λ v. subst (λ (ls : List (List ℕ)). Does ls d t d′ t′ well′) one (a .does);
-        desk-still = λ v. absurd (let z : _≡_ {A = ℕ} 0 1 = cc in omega arith);
-        told-still = λ v. absurd (let z : _≡_ {A = ℕ} 0 1 = cc in omega arith);
-        still-failed = λ v. absurd (let z : _≡_ {A = ℕ} 0 1 = cc in omega arith);
+        desk-still = λ v. absurd (true≢false (sym w ∙ v));
+        told-still = λ v. absurd (true≢false (sym w ∙ v));
+        still-failed = λ v. absurd (true≢false (sym w ∙ v));
       }
     where
       some : (q : List ℕ) → 0 < length q → lastLine q ≡ q ∷ []

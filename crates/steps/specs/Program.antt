@@ -8,10 +8,10 @@ use lib.ListN.{length, take, replicate}
 use Rattle.tables.specs.Cells.{tables}
 use Rattle.tables.specs.Sessions.{freed}
 use Rattle.text.specs.Lines.{lastLine, linesOf}
-use Rattle.steps.specs.declared.watch.Watch.{Watch}
-use Rattle.steps.specs.declared.ends.Told.{Told}
-use Rattle.steps.specs.Watch.{fresh, watched}
-use Rattle.steps.specs.Ends.{Taken}
+use Rattle.ends.specs.declared.watch.Watch.{Watch}
+use Rattle.ends.specs.declared.Told.{Told}
+use Rattle.ends.specs.Watch.{fresh, watched}
+use Rattle.ends.specs.Ends.{Taken}
 use Rattle.steps.specs.Desk.{Desk, desk, afterLines, answersOf}
 use Rattle.steps.specs.Answers.{linesLeft, pendingLeft}
 

@@ -4,11 +4,12 @@ use lines::Sessions;
 use text::Fed;
 ghost use mathlib.Core.Path.{_≡_};
 ghost use mathlib.Core.Bool.{_&&_};
-ghost use Prim.Native.Nat.{_-_, _≤_};
+ghost use Prim.Native.Nat.{_-_, _<_, _≤_};
 ghost use lib.Dec.{leb, ltb};
 ghost use lib.ListN.{length, take};
 ghost use Rattle.tables.specs.Cells.{tables};
 ghost use Rattle.text.specs.Feed.{wholeLine};
+ghost use Rattle.lines.specs.Left.{leaves};
 ghost use Rattle.steps.specs.Desk.{desk};
 ghost use Rattle.steps.specs.Answers.{Replied, spot, Answers};
 
@@ -29,7 +30,7 @@ fn goes_on(at: usize, n: usize, filled: usize, room: usize) -> bool
     (at < n) & (10276 <= room - filled)
 }
 
-// The line that was fed is answered, if it is whole.
+// The line that was fed is answered, if it is whole; what is left of the sessions is handed back.
 fn answered(
     clock: &mut [u32],
     slots: &mut [u32],
@@ -50,11 +51,13 @@ fn answered(
         (now (changes .entry)) (all .at)) (now (scratch .entry))) (wholeLine (fed .whole) (take (fed .line)
         (now (pending .entry)))) (now (out .entry))
         (desk (tables (now (clock .exit)) (now (slots .exit)) (now (words .exit)) (now (heads .exit)) (now (log .exit))
-        (now (changes .exit)) (r .sessions .at)) (now (scratch .exit))) (now (out .exit)) (r .len) ⌝ }
+        (now (changes .exit)) (leaves (all .at) (r .left))) (now (scratch .exit))) (now (out .exit)) (r .len) ⌝ }
+    ensures { λ r. ⌜ r .left .place < 16 ⌝ }
 {
     let n = fed.line;
     if !fed.whole {
-        return lines::nothing(all);
+        let first = all.at[0];
+        return lines::nothing(first);
     }
     lines::line(
         clock,
@@ -118,8 +121,13 @@ pub fn answer(
             all,
             fed,
         );
-        let next = done.sessions;
-        all = next;
+        let left = done.left;
+        let i = left.place;
+        let session = left.session;
+        all.at[i] = session;
+        if left.anew {
+            all = lines::all_free();
+        }
         filled = filled + done.len;
         len = fed.len;
         at = fed.next;

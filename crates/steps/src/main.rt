@@ -1,13 +1,11 @@
 // The step program: lines from standard input, an answer to each on standard output. Assumes nothing.
 mod chunk;
-mod ends;
-mod watch;
 
 use chunk::State;
 use ends::Told;
+use ends::Watch;
 use ends::Writer;
 use lines::Sessions;
-use watch::Watch;
 ghost use mathlib.Core.Path.{_≡_};
 ghost use mathlib.Core.Bool.{true, false, _&&_};
 ghost use Prim.Native.Nat.{_<_, _≤_};
@@ -15,7 +13,7 @@ ghost use lib.Dec.{ltb};
 ghost use lib.ListN.{length, replicate};
 ghost use Rattle.tables.specs.Cells.{tables};
 ghost use Rattle.tables.specs.Sessions.{freed};
-ghost use Rattle.steps.specs.Watch as watching;
+ghost use Rattle.ends.specs.Watch as watching;
 ghost use Rattle.steps.specs.Desk.{desk};
 ghost use Rattle.steps.specs.Program.{Through, Read, Ends, Blank, Program};
 
@@ -38,7 +36,7 @@ fn started(heard_at: usize, told_at: usize) -> Stand
         × (r .told .taken ≡ watching.fresh «told_at») ⌝ }
 {
     let all = lines::all_free();
-    let watch = watch::fresh(told_at);
+    let watch = ends::fresh(told_at);
     let told = Told {
         handed: watch,
         taken: watch,
@@ -48,7 +46,7 @@ fn started(heard_at: usize, told_at: usize) -> Stand
         sessions: all,
         more: true,
         well: true,
-        heard: watch::fresh(heard_at),
+        heard: ends::fresh(heard_at),
         told: told,
     }
 }

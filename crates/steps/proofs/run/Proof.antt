@@ -2,173 +2,76 @@
 -- Assumes nothing.
 use mathlib.Core.Path.{_≡_, refl, _∙_}
 use mathlib.Core.Bool.{true}
-use Prim.Native.Nat.{_<_}
+use Prim.Native.Nat.{_<_, _≤_}
 use native.Mathlib.Omega.{arith}
 use borrow.Author.Needs.{needs}
 use lib.ListN.{length}
 use Rattle.tables.specs.Cells.{tables}
+use Rattle.ends.proofs.EndsLaws.{turns-left, goes-first}
 use Rattle.steps.specs.Desk.{desk}
 use Rattle.steps.specs.Program.{Read}
-use Rattle.steps.proofs.EndsLaws.{turns-left, goes-first}
-use Rattle.steps.proofs.ProgramLaws.{Kept, read-none, read-more, read-over}
+use Rattle.steps.proofs.KeptLaws.{Kept, kept-none, kept-more}
+use Rattle.steps.proofs.ProgramLaws.{read-none, read-more, read-over}
 use Rattle.steps.proofs.run.Statement.{statement}
 use Rattle.steps.proofs.run.Tie as tie
 
 abbrev Inv-loop : tie.InvT-loop
-Inv-loop clock₀ slots₀ words₀ heads₀ log₀ changes₀ scratch₀ column₀ pending₀ out₀ input₀ stand₀ turns₀ more₀ clock slots words heads log
-    changes scratch column pending out input stand turns more =
-    Kept clock₀ slots₀ words₀ heads₀ log₀ changes₀ scratch₀ column₀ pending₀ out₀ clock slots words heads log changes scratch column pending
-    out
+Inv-loop clock₀ slots₀ words₀ heads₀ log₀ changes₀ scratch₀ column₀ pending₀ out₀ input₀ stand₀ turns₀ more₀
+    clock slots words heads log changes scratch column pending out input stand turns more =
+    Kept clock₀ slots₀ words₀ heads₀ log₀ changes₀ scratch₀ column₀ pending₀ out₀
+    clock slots words heads log changes scratch column pending out
     × Read (desk (tables clock₀ slots₀ words₀ heads₀ log₀ changes₀ (stand₀ .sessions .at)) scratch₀) pending₀ (stand₀ .pending)
     (stand₀ .heard) (stand₀ .told)
     (desk (tables clock slots words heads log changes (stand .sessions .at)) scratch) pending (stand .pending) (stand .heard) (stand .told)
     (stand .well)
-    × (length input ≡ length input₀) × (more ≡ true → stand .well ≡ true) × (more ≡ true → 0 < turns)
+    × (10276 ≤ length out₀) × (length input ≡ length input₀) × (more ≡ true → stand .well ≡ true) × (more ≡ true → 0 < turns)
 
 abbrev μ-loop : tie.MeasureT-loop
-μ-loop clock₀ slots₀ words₀ heads₀ log₀ changes₀ scratch₀ column₀ pending₀ out₀ input₀ stand₀ turns₀ more₀ clock slots words heads log
-    changes scratch column pending out input stand turns more =
+μ-loop clock₀ slots₀ words₀ heads₀ log₀ changes₀ scratch₀ column₀ pending₀ out₀ input₀ stand₀ turns₀ more₀
+    clock slots words heads log changes scratch column pending out input stand turns more =
     turns
 
 loop-holds : tie.Need-loop-holds Inv-loop μ-loop
-loop-holds c =
-    let at-pre = c .before .before .before .before .before .before .before .before .before .before .before .pre in (
-      record {
-        clock-same = refl;
-        slots-same = refl;
-        words-same = refl;
-        heads-same = refl;
-        log-same = refl;
-        changes-same = refl;
-        scratch-same = refl;
-        column-same = refl;
-        pending-same = refl;
-        out-same = refl;
-        wide = search needs;
-        roomy = search needs;
-      },
-      read-none _ (search needs),
-      refl,
-      λ t. at-pre .3,
-      λ t. omega arith,
-    )
+loop-holds c = (
+  kept-none (search needs),
+  read-none _ (search needs),
+  search needs,
+  refl,
+  λ t. c .before .before .before .before .before .before .before .before .before .before .before .pre .3,
+  λ t. omega arith,
+)
 
 turn-requires : tie.Need-turn-requires Inv-loop μ-loop
 turn-requires c κs =
-    let at-loop-test = c .before .before .before .before .before .before .before .before .before .before .before .loop-test in
-    let at-loop = c .before .before .before .before .before .before .before .before .before .before .before .before .loop in (
-      at-loop .inv .0 .wide,
-      at-loop .inv .0 .roomy,
-      omega (arith, at-loop .inv .1 .through .fits, at-loop .inv .0 .pending-same),
-      at-loop
-          .inv .3 (at-loop-test .taken),
+    let at-test = c .before .before .before .before .before .before .before .before .before .before .before in
+    let g = at-test .before .loop .inv in (
+      g .0 .wide,
+      omega (arith, g .2, g .0 .same .9),
+      omega (arith, g .1 .through .fits, g .0 .same .8),
+      g .4 (at-test .loop-test .taken),
     )
 
-sub-turns : tie.Need-sub-turns Inv-loop μ-loop
-sub-turns c =
-    let b1 = c .before .before .before .before .before .before .before .before .before .before .before .before .before .before in
-    let b2 = b1 .before .before .before .before .before .before .before .before .before .before .before .before .before .before in
-    let at-loop-test = b2 .before .before .before .before .before .before .loop-test in
-    let at-loop = b2 .before .before .before .before .before .before .before .loop in
-    omega (arith, at-loop .inv .4 (at-loop-test .taken))
+-- the turn that was taken, and where it began
+abbrev taken : tie.After-goes Inv-loop μ-loop → tie.After-turn Inv-loop μ-loop
+taken c = c .before .before .before .before .before .before .before .before .before .before .before .before .before .before
+    .before .before .before .before .before .before .before .before .before
 
-goes-requires : tie.Need-goes-requires Inv-loop μ-loop
-goes-requires c κs = search needs
-
-loop-less : tie.Need-loop-less Inv-loop μ-loop
-loop-less c =
-    let b1 = c .before .before .before .before .before .before .before .before .before .before .before .before .before .before in
-    let b2 = b1 .before .before .before .before .before .before .before .before .before .before .before .before .before .before in
-    let at-loop-test = b2 .before .before .before .before .before .before .before .loop-test in
-    let at-loop = b2 .before .before .before .before .before .before .before .before .loop in
-    omega (arith, at-loop .inv .4 (at-loop-test .taken))
+abbrev began : tie.After-turn Inv-loop μ-loop → tie.In-loop Inv-loop μ-loop
+began c = c .before .before .before .before .before .before .before .before .before .before .before .before
 
 loop-again : tie.Need-loop-again Inv-loop μ-loop
 loop-again c =
-    let b1 = c .before .before .before .before .before .before .before .before .before .before .before .before .before .before in
-    let b2 = b1 .before .before .before .before .before .before .before .before .before .before .before .before .before .before in
-    let at-turn = b1 .before .before .before .before .before .before .before .before .before .turn in
-    let at-loop-test = b2 .before .before .before .before .before .before .before .loop-test in
-    let at-loop = b2 .before .before .before .before .before .before .before .before .loop in (
-      record {
-        clock-same = at-turn .kept .0 ∙ at-loop .inv .0 .clock-same;
-        slots-same = at-turn .kept .1 .0 ∙ at-loop .inv .0 .slots-same;
-        words-same = at-turn .kept .1 .1 .0 ∙ at-loop .inv .0 .words-same;
-        heads-same = at-turn .kept .1 .1 .1 .0 ∙ at-loop .inv .0 .heads-same;
-        log-same = at-turn .kept .1 .1 .1 .1 .0 ∙ at-loop .inv .0 .log-same;
-        changes-same = at-turn .kept .1 .1 .1 .1 .1 .0 ∙ at-loop .inv .0 .changes-same;
-        scratch-same = at-turn .kept .1 .1 .1 .1 .1 .1 .0 ∙ at-loop .inv .0 .scratch-same;
-        column-same = at-turn .kept .1 .1 .1 .1 .1 .1 .1 .0 ∙ at-loop .inv .0 .column-same;
-        pending-same = at-turn .kept .1 .1 .1 .1 .1 .1 .1 .1 .0 ∙ at-loop .inv .0 .pending-same;
-        out-same = at-turn .kept .1 .1 .1 .1 .1 .1 .1 .1 .1 .0 ∙ at-loop .inv .0 .out-same;
-        wide = omega (arith, at-loop .inv .0 .wide, at-turn .kept .1 .1 .1 .1 .1 .1 .1 .0);
-        roomy = omega (arith, at-loop .inv .0 .roomy, at-turn .kept .1 .1 .1 .1 .1 .1 .1 .1 .1 .0);
-      },
-      read-more (at-loop .inv .1) (at-loop .inv .3 (at-loop-test .taken)) (at-turn .ensures .0),
-      at-turn .kept .1 .1 .1 .1 .1 .1 .1 .1 .1 .1 .0 ∙ at-loop .inv .2,
-      λ e. at-turn .ensures .1 (goes-first _ _ _ (c .goes .ensures) e),
+    let t = taken c .turn in
+    let b = began (taken c) in
+    let g = b .before .loop .inv in
+    let k = t .kept .1 .1 .1 .1 .1 .1 .1 .1 in (
+      kept-more (g .0) (t .kept) (k .0 ∙ g .0 .same .8) (k .1 .0 ∙ g .0 .same .9),
+      read-more (g .1) (g .4 (b .loop-test .taken)) (t .ensures .0),
+      g .2,
+      k .1 .1 .0 ∙ g .3,
+      λ e. t .ensures .1 (goes-first _ _ _ (c .goes .ensures) e),
       turns-left _ _ _ (c .goes .ensures),
     )
-
-same-length : tie.Need-same-length Inv-loop μ-loop
-same-length c =
-    let at-loop = c .before .before .before .loop in
-    at-loop .inv .0 .clock-same
-
-same-length-2 : tie.Need-same-length-2 Inv-loop μ-loop
-same-length-2 c =
-    let at-loop = c .before .before .before .loop in
-    at-loop .inv .0 .slots-same
-
-same-length-3 : tie.Need-same-length-3 Inv-loop μ-loop
-same-length-3 c =
-    let at-loop = c .before .before .before .loop in
-    at-loop .inv .0 .words-same
-
-same-length-4 : tie.Need-same-length-4 Inv-loop μ-loop
-same-length-4 c =
-    let at-loop = c .before .before .before .loop in
-    at-loop .inv .0 .heads-same
-
-same-length-5 : tie.Need-same-length-5 Inv-loop μ-loop
-same-length-5 c =
-    let at-loop = c .before .before .before .loop in
-    at-loop .inv .0 .log-same
-
-same-length-6 : tie.Need-same-length-6 Inv-loop μ-loop
-same-length-6 c =
-    let at-loop = c .before .before .before .loop in
-    at-loop .inv .0 .changes-same
-
-same-length-7 : tie.Need-same-length-7 Inv-loop μ-loop
-same-length-7 c =
-    let at-loop = c .before .before .before .loop in
-    at-loop .inv .0 .scratch-same
-
-same-length-8 : tie.Need-same-length-8 Inv-loop μ-loop
-same-length-8 c =
-    let at-loop = c .before .before .before .loop in
-    at-loop .inv .0 .column-same
-
-same-length-9 : tie.Need-same-length-9 Inv-loop μ-loop
-same-length-9 c =
-    let at-loop = c .before .before .before .loop in
-    at-loop .inv .0 .pending-same
-
-same-length-10 : tie.Need-same-length-10 Inv-loop μ-loop
-same-length-10 c =
-    let at-loop = c .before .before .before .loop in
-    at-loop .inv .0 .out-same
-
-same-length-11 : tie.Need-same-length-11 Inv-loop μ-loop
-same-length-11 c =
-    let at-loop = c .before .before .before .loop in
-    at-loop .inv .2
-
-returns : tie.Need-returns Inv-loop μ-loop
-returns c =
-    let at-loop = c .before .before .before .loop in
-    read-over _ (at-loop .inv .1)
 
 pub run-spec : {M : Type 1} → statement M
 run-spec =
@@ -178,19 +81,22 @@ run-spec =
     μ-loop
     loop-holds
     turn-requires
-    sub-turns
-    goes-requires
-    loop-less
+    (λ c. let a = c .before .before .before .before .before .before .before .before .before .before .before .before in
+    let b = a .before .before .before .before .before .before .before .before .before .before .before .before in
+    let t : tie.In-loop Inv-loop μ-loop = b .before .before .before .before .before .before .before .before .before .before in
+    omega (arith, t .before .loop .inv .5 (t .loop-test .taken)))
+    (λ c κs. search needs)
+    (λ c. let b = began (taken c) in omega (arith, b .before .loop .inv .5 (b .loop-test .taken)))
     loop-again
-    same-length
-    same-length-2
-    same-length-3
-    same-length-4
-    same-length-5
-    same-length-6
-    same-length-7
-    same-length-8
-    same-length-9
-    same-length-10
-    same-length-11
-    returns)
+    (λ c. c .before .before .before .loop .inv .0 .same .0)
+    (λ c. c .before .before .before .loop .inv .0 .same .1)
+    (λ c. c .before .before .before .loop .inv .0 .same .2)
+    (λ c. c .before .before .before .loop .inv .0 .same .3)
+    (λ c. c .before .before .before .loop .inv .0 .same .4)
+    (λ c. c .before .before .before .loop .inv .0 .same .5)
+    (λ c. c .before .before .before .loop .inv .0 .same .6)
+    (λ c. c .before .before .before .loop .inv .0 .same .7)
+    (λ c. c .before .before .before .loop .inv .0 .same .8)
+    (λ c. c .before .before .before .loop .inv .0 .same .9)
+    (λ c. c .before .before .before .loop .inv .3)
+    (λ c. read-over _ (c .before .before .before .loop .inv .1)))

@@ -5,7 +5,7 @@ use mathlib.Core.Bool.{true, false, cond}
 use mathlib.Core.List.{List, [], _∷_}
 use Prim.Native.Nat.{ℕ, _-_}
 use lib.Dec.{eqb}
-use Rattle.steps.specs.declared.watch.Watch.{Watch}
+use Rattle.ends.specs.declared.watch.Watch.{Watch}
 
 -- a watch on byte number `place`, from 0, before any byte
 unfoldable pub fresh : ℕ → Watch

@@ -6,9 +6,9 @@ use mathlib.Core.List.{List, [], _++_}
 use Prim.Native.Nat.{ℕ, _≤_}
 use lib.Dec.{ltb}
 use lib.ListN.{length, take}
-use Rattle.steps.specs.declared.watch.Watch.{Watch}
-use Rattle.steps.specs.declared.ends.Told.{Told}
-use Rattle.steps.specs.Watch.{watched}
+use Rattle.ends.specs.declared.watch.Watch.{Watch}
+use Rattle.ends.specs.declared.Told.{Told}
+use Rattle.ends.specs.Watch.{watched}
 
 -- one write took the first n of these bytes
 pub record Put (bytes : List ℕ) (w : Watch) (n : ℕ) (w′ : Watch) : Type 0 where

@@ -1,7 +1,7 @@
 -- Writes and reads, one after another.
 -- Assumes nothing.
 use mathlib.Core.Path.{_≡_, refl, sym, ap, ap₂, _∙_}
-use mathlib.Core.Bool.{Bool, true, false, _&&_}
+use mathlib.Core.Bool.{Bool, true, and-eq-true-iff}
 use mathlib.Core.List.{List, [], _++_, append-assoc, append-nil}
 use Prim.Native.Nat.{ℕ, _+_, _-_, _<_, _≤_}
 use native.Mathlib.Omega.{arith}
@@ -9,32 +9,21 @@ use borrow.Author.Tests.{ltb-true, eqb-true}
 use lib.Dec.{eqb, ltb}
 use lib.ListN.{length, take, drop, length-take, length-drop, take-append-drop, drop-of-length-le}
 use lib.Seq.{take-take, take-add}
-use Rattle.steps.specs.declared.watch.Watch.{Watch}
-use Rattle.steps.specs.Watch.{watched}
-use Rattle.steps.specs.Ends.{Put, Taken, goesOn}
-use Rattle.steps.proofs.WatchLaws.{watched-append}
+use Rattle.ends.specs.declared.watch.Watch.{Watch}
+use Rattle.ends.specs.Watch.{watched}
+use Rattle.ends.specs.Ends.{Put, Taken, goesOn}
+use Rattle.ends.proofs.WatchLaws.{watched-append}
 
 -- ---- what goes on has turns left
-
-both : (a b : Bool) → a && b ≡ true → (a ≡ true) × (b ≡ true)
-both true true e = (refl, refl)
-both true false e = (refl, e)
-both false b e = absurd (let z : _≡_ {A = ℕ} 0 1 = cc in omega arith)
-
-pub both-first : (a b : Bool) → a && b ≡ true → a ≡ true
-both-first a b e = both a b e .0
-
-pub both-second : (a b : Bool) → a && b ≡ true → b ≡ true
-both-second a b e = both a b e .1
 
 module _ (on : Bool) (turns : ℕ) (r : Bool) (e : r ≡ goesOn on turns) where
   pub turns-left : r ≡ true → 0 < turns
   unfolding goesOn
-  turns-left t = ltb-true 0 turns (both-second on (ltb 0 turns) (sym e ∙ t))
+  turns-left t = ltb-true 0 turns (and-eq-true-iff on (ltb 0 turns) .0 (sym e ∙ t) .1)
 
   pub goes-first : r ≡ true → on ≡ true
   unfolding goesOn
-  goes-first t = both-first on (ltb 0 turns) (sym e ∙ t)
+  goes-first t = and-eq-true-iff on (ltb 0 turns) .0 (sym e ∙ t) .0
 
 -- ---- some bytes taken, then more
 
@@ -56,14 +45,8 @@ taken-more {xs} {ys} {w} {w₁} {w₂} a e b =
 
 -- it may be said to have failed
 pub taken-less : {xs : List ℕ} {w w₁ : Watch} {well well′ : Bool} → (well′ ≡ true → well ≡ true) → Taken xs w w₁ well → Taken xs w w₁ well′
-taken-less h a = record {
-  first = a .first;
-  rest = a .rest;
-  bytes-are = a .bytes-are;
-  watch-is = a .watch-is;
-  all-first = λ e. a .all-first
-      (h e);
-}
+taken-less h a =
+    record { first = a .first; rest = a .rest; bytes-are = a .bytes-are; watch-is = a .watch-is; all-first = λ e. a .all-first (h e) }
 
 -- ---- the head of the loop that writes
 

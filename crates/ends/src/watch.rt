@@ -4,7 +4,7 @@
 ghost use mathlib.Core.Path.{_≡_};
 ghost use Prim.Native.Nat.{_≤_};
 ghost use lib.ListN.{length, take};
-ghost use Rattle.steps.specs.Watch as watching;
+ghost use Rattle.ends.specs.Watch as watching;
 
 // How many bytes are still to go by before the watched one; whether it is past; and which byte it was.
 pub struct Watch {

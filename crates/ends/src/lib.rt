@@ -1,14 +1,16 @@
 // Standard input and standard output. A call that a signal interrupts, or that would have to wait on an end which does not wait, is made
 // again; one that fails otherwise is told on standard error. Assumes nothing.
-use crate::watch;
-use crate::watch::Watch;
+mod watch;
+
 use libc::STDIN_FILENO;
 use libc::STDOUT_FILENO;
+pub use watch::Watch;
+pub use watch::fresh;
 ghost use mathlib.Core.Path.{_≡_};
 ghost use mathlib.Core.Bool.{true};
 ghost use Prim.Native.Nat.{_≤_};
 ghost use lib.ListN.{length, take};
-ghost use Rattle.steps.specs.Ends.{Put, Taken, Handed, Got, goesOn};
+ghost use Rattle.ends.specs.Ends.{Put, Taken, Handed, Got, goesOn};
 
 // The watches on the bytes handed to the writer, and on those that the system took of them.
 pub struct Told {

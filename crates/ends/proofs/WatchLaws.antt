@@ -1,7 +1,7 @@
 -- Bytes that a watch sees go by: piece after piece, and why watches on every place tell which bytes they were.
 -- Assumes nothing.
 use mathlib.Core.Path.{_≡_, refl, sym, ap, _∙_}
-use mathlib.Core.Bool.{Bool, true, false, cond}
+use mathlib.Core.Bool.{Bool, true, false, cond, true≢false}
 use mathlib.Core.List.{List, [], _∷_, _++_}
 use Prim.Native.Nat.{ℕ, zero, suc, _-_, _<_, _≤_}
 use native.Mathlib.Omega.{arith}
@@ -9,8 +9,8 @@ use borrow.Author.Tests.{ne-eqb}
 use lib.Dec.{eqb}
 use lib.ListN.{length, take, getD, length-take}
 use lib.Seq.{getD-take}
-use Rattle.steps.specs.declared.watch.Watch.{Watch}
-use Rattle.steps.specs.Watch.{fresh, watchedOne, watched}
+use Rattle.ends.specs.declared.watch.Watch.{Watch}
+use Rattle.ends.specs.Watch.{fresh, watchedOne, watched}
 
 pub watched-append : (w : Watch) (xs ys : List ℕ) → watched w (xs ++ ys) ≡ watched (watched w xs) ys
 unfolding watched
@@ -66,24 +66,18 @@ module _ (w : Watch) (bs : List ℕ) (n : ℕ) (p : w .past ≡ false) (l : n �
       ap (λ (k : ℕ). watch k false (w .seen)) e ∙ sym (beyond (w .until) (w .seen) (take n bs) (omega (arith, length-take n bs)))
       ∙ ap (λ (v : Watch). watched v (take n bs)) not-past
 
+-- a watch on a byte to come is none on a byte that is past
+to-come : (y : ℕ) (ys : List ℕ) → watch 0 false 0 ≡ watched (watch 0 true y) ys → ⊥
+to-come y ys e = true≢false (ap (λ (v : Watch). v .past) (watched-past (watch 0 true y) ys refl ∙ sym e))
+
 -- ---- bytes that no watch on one of m places tells apart are the same, as far as these places go
 
 pub same-bytes : (m : ℕ) (xs ys : List ℕ) → ((i : ℕ) → i < m → watched (fresh i) xs ≡ watched (fresh i) ys) → take m xs ≡ take m ys
 unfolding watched watchedOne fresh
 same-bytes zero xs ys h = refl
 same-bytes (suc m) [] [] h = refl
-same-bytes (suc m) [] (y ∷ ys) h = absurd (differ (watch 0 false 0) y ys refl (h 0 (omega arith)))
-  where
-    differ : (w : Watch) (y : ℕ) (ys : List ℕ) → w .past ≡ false → w ≡ watched (watch 0 true y) ys → ⊥
-    differ w y ys p e =
-        let q : true ≡ false = ap (λ (v : Watch). v .past) (watched-past (watch 0 true y) ys refl ∙ sym e) ∙ p in
-        let z : _≡_ {A = ℕ} 0 1 = cc in omega arith
-same-bytes (suc m) (x ∷ xs) [] h = absurd (differ (watch 0 false 0) x xs refl (sym (h 0 (omega arith))))
-  where
-    differ : (w : Watch) (y : ℕ) (ys : List ℕ) → w .past ≡ false → w ≡ watched (watch 0 true y) ys → ⊥
-    differ w y ys p e =
-        let q : true ≡ false = ap (λ (v : Watch). v .past) (watched-past (watch 0 true y) ys refl ∙ sym e) ∙ p in
-        let z : _≡_ {A = ℕ} 0 1 = cc in omega arith
+same-bytes (suc m) [] (y ∷ ys) h = absurd (to-come y ys (h 0 (omega arith)))
+same-bytes (suc m) (x ∷ xs) [] h = absurd (to-come x xs (sym (h 0 (omega arith))))
 same-bytes (suc m) (x ∷ xs) (y ∷ ys) h =
     let e : watch 0 true x ≡ watch 0 true y = watched-past (watch 0 true x) xs refl ∙ h 0 (omega arith)
     ∙ sym (watched-past (watch 0 true y) ys refl) in
