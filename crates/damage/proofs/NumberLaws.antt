@@ -8,7 +8,7 @@ use borrow.Author.Tests.{not-false}
 use Rattle.tables.specs.Damage.{clockFits, recordsFit, changesFit, slotsFit, headsFit, vectorsFit}
 use Rattle.tables.proofs.Tests.{both, and-both}
 use Rattle.damage.specs.Numbers.{numbersFit}
-use Rattle.damage.proofs.Truth.{not-so, found-false}
+use Rattle.tables.proofs.Tests.{not-so, found-false}
 
 -- the tests, one by one
 pub record NumberParts (clock slots words heads log changes : List ℕ) : Type 0 where

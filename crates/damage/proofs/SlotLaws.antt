@@ -15,7 +15,7 @@ use Rattle.tables.specs.Clock.{clockIn}
 use Rattle.tables.specs.Damage.{allIn, clockFits, firstSlotFits, laterSlotFits, slotFits, slotsFit, headFits, headsFit}
 use Rattle.tables.proofs.Facts.{clock-facts}
 use Rattle.damage.specs.Parts.{linkFits}
-use Rattle.damage.proofs.Fold.{below-in, in-join, in-ext}
+use Rattle.tables.proofs.Fold.{below-in, in-join, in-ext}
 
 -- a slot below C, whose number the code has under another name
 pub first-slot : (slots : List ℕ) (i n : ℕ) → n ≡ i

@@ -19,8 +19,8 @@ use Rattle.tables.proofs.Access.{clock-long}
 use Rattle.tables.proofs.Facts.{room-facts, clock-limits, rows-high-at}
 use Rattle.tables.proofs.Sessions.{open-facts}
 use Rattle.damage.specs.Numbers.{numbersFit}
-use Rattle.damage.specs.Judged.{judgeable, sessionJudged, sessionsJudged}
-use Rattle.damage.proofs.JudgedLaws.{limits-made}
+use Rattle.session_damage.specs.Judged.{judgeable, sessionJudged, sessionsJudged}
+use Rattle.session_damage.proofs.JudgedLaws.{limits-made}
 use Rattle.damage.proofs.NumberLaws.{number-parts}
 
 -- a test in front of another that implies it

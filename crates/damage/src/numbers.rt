@@ -1,12 +1,10 @@
 // The number tables: whether none is damaged.
 // Assumes nothing.
-use crate::changes;
 use crate::clock;
-use crate::records;
 use crate::slots;
 use crate::vectors;
 ghost use mathlib.Core.Path.{_≡_};
-ghost use Rattle.damage.specs.Room.{Roomy};
+ghost use Rattle.tables.specs.Room.{Roomy};
 ghost use Rattle.damage.specs.Numbers.{numbersFit};
 
 // Whether the number tables are not damaged.
@@ -24,10 +22,10 @@ pub fn numbers_fit(
     if !clock::clock_fits(clock) {
         return false;
     }
-    if !records::records_fit(clock, log) {
+    if !log_damage::records_fit(clock, log) {
         return false;
     }
-    if !changes::changes_fit(clock, log, changes) {
+    if !log_damage::changes_fit(clock, log, changes) {
         return false;
     }
     if !slots::slots_fit(clock, slots) {

@@ -107,7 +107,7 @@ pub fn all_fit(t: &[Session], log: &[u32], c: Clock) -> bool
     let end = limit(ok);
     let mut i = 0;
     while i < end {
-        let fits = damage::session_fits(t[i], log, c);
+        let fits = session_damage::session_fits(t[i], log, c);
         ok = ok & fits;
         i += 1;
     }

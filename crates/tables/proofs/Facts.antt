@@ -15,53 +15,33 @@ use Rattle.bits.specs.Cases.{lt-cases}
 use Rattle.bits.specs.All.{allBelow, all-at, all-of}
 use Rattle.rules.specs.Limits.{maxValues, maxRows, maxSlots, maxRecords, maxChanges}
 use Rattle.tables.specs.Cells.{Tables, valuesIn, firstIn, stampIn, rowsIn, slotsIn, changesIn, recordStamp, recordKind, recordRows, recordEnd, rowsAt, endAt, changeRow, changeSet}
-use Rattle.tables.specs.Room.{roomy}
+use Rattle.tables.specs.Room.{roomFor, roomy, Roomy}
+pub use Rattle.tables.specs.Room.{Room}
 use Rattle.tables.specs.Damage.{clockFits, recordFits, recordsFit, allIn, changeFits, recordChangesFit, changesFit, slotsFit, headsFit, vectorsFit, sessionsFit, sound}
-use Rattle.tables.proofs.Tests.{both, and-both, either, or-left, or-right}
+use Rattle.tables.proofs.Tests.{told, made, both, and-both, either, or-left, or-right}
 
 -- ---- room
 
--- no table is short
-pub record Room (t : Tables) : Type 0 where
-  pub clock-room : 6 ≤ length (t .clock)
-  pub slots-room : 288 ≤ length (t .slots)
-  pub words-room : 3072 ≤ length (t .words)
-  pub heads-room : 32 ≤ length (t .heads)
-  pub log-room : 2048 ≤ length (t .log)
-  pub changes-room : 4096 ≤ length (t .changes)
-  pub sessions-room : 16 ≤ length (t .sessions)
+module _ (clock slots words heads log changes : List ℕ) (places : ℕ) where
+  -- what `numbers_fit` requires
+  pub room-lengths : roomFor clock slots words heads log changes places ≡ true → Roomy clock slots words heads log changes
+  unfolding roomFor
+  room-lengths e = search (told, arith) depth 12
 
-pub room-facts : (t : Tables) → roomy t ≡ true → Room t
-unfolding roomy
-room-facts t e =
-    let p = both _ _ e in
-    let q = both _ _ (p .0) in
-    let r = both _ _ (q .0) in
-    let s = both _ _ (r .0) in
-    let u = both _ _ (s .0) in
-    let v = both _ _ (u .0) in
-    record {
-      clock-room = leb-true _ _ (v .0);
-      slots-room = leb-true _ _ (v .1);
-      words-room = leb-true _ _ (u .1);
-      heads-room = leb-true _ _ (s .1);
-      log-room = leb-true _ _ (r .1);
-      changes-room = leb-true _ _ (q .1);
-      sessions-room = leb-true _ _ (p .1);
-    }
+module _ (t : Tables) where
+  pub room-facts : roomy t ≡ true → Room t
+  unfolding roomy roomFor
+  room-facts e = search told depth 12
 
-pub room-made : (t : Tables) → Room t → roomy t ≡ true
-unfolding roomy
-room-made t r =
-    and-both _ _
-    (and-both _ _
-    (and-both _ _
-    (and-both _ _
-    (and-both _ _ (and-both _ _ (le-leb _ _ (r .clock-room)) (le-leb _ _ (r .slots-room))) (le-leb _ _ (r .words-room)))
-    (le-leb _ _ (r .heads-room)))
-    (le-leb _ _ (r .log-room)))
-    (le-leb _ _ (r .changes-room)))
-    (le-leb _ _ (r .sessions-room))
+  pub room-made : Room t → roomy t ≡ true
+  unfolding roomy roomFor
+  room-made r = search made depth 12
+
+  -- by the session table's length
+  pub room-is : (places : ℕ) → places ≡ length (t .sessions)
+      → roomFor (t .clock) (t .slots) (t .words) (t .heads) (t .log) (t .changes) places ≡ roomy t
+  unfolding roomy
+  room-is places e = ap (roomFor (t .clock) (t .slots) (t .words) (t .heads) (t .log) (t .changes)) e
 
 -- ---- the seven parts of "Damaged tables"
 

@@ -6,7 +6,7 @@ use Prim.Native.Nat.{_-_}
 use native.Mathlib.Omega.{arith}
 use Rattle.bits.specs.All.{allBelow}
 use Rattle.tables.specs.Damage.{allIn, firstSlotFits}
-use Rattle.damage.proofs.Fold.{below-in, fold-again, fold-end}
+use Rattle.tables.proofs.Fold.{below-in, fold-again, fold-end}
 use Rattle.damage.proofs.slots.first_slots_fit.Statement.{statement}
 use Rattle.damage.proofs.slots.first_slots_fit.Tie as tie
 

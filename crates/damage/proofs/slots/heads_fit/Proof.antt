@@ -5,8 +5,8 @@ use Prim.Native.Nat.{_-_, _≤_}
 use native.Mathlib.Omega.{arith}
 use borrow.Author.Needs.{needs}
 use Rattle.tables.specs.Damage.{allIn, headFits, headsFit}
-use Rattle.damage.proofs.ClockLaws.{low-values, low-slots}
-use Rattle.damage.proofs.Fold.{scan-again, scan-fails, scan-end}
+use Rattle.tables.proofs.ClockLaws.{low-values, low-slots}
+use Rattle.tables.proofs.Fold.{scan-again, scan-fails, scan-end}
 use Rattle.damage.proofs.SlotLaws.{all-heads}
 use Rattle.damage.proofs.slots.heads_fit.Statement.{statement}
 use Rattle.damage.proofs.slots.heads_fit.Tie as tie

@@ -5,7 +5,7 @@ use Prim.Native.Nat.{_-_}
 use native.Mathlib.Omega.{arith}
 use borrow.Author.Needs.{needs}
 use Rattle.tables.specs.Damage.{allIn, laterSlotFits}
-use Rattle.damage.proofs.Fold.{scan-begin, scan-again, scan-fails, scan-end}
+use Rattle.tables.proofs.Fold.{scan-begin, scan-again, scan-fails, scan-end}
 use Rattle.damage.proofs.SlotLaws.{later-slot}
 use Rattle.damage.proofs.slots.later_slots_fit.Statement.{statement}
 use Rattle.damage.proofs.slots.later_slots_fit.Tie as tie

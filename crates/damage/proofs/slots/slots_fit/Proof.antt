@@ -2,7 +2,7 @@
 -- Assumes nothing.
 use native.Mathlib.Omega.{arith}
 use borrow.Author.Needs.{needs}
-use Rattle.damage.proofs.ClockLaws.{low-first-slots, low-slots}
+use Rattle.tables.proofs.ClockLaws.{low-first-slots, low-slots}
 use Rattle.damage.proofs.SlotLaws.{all-slots}
 use Rattle.damage.proofs.slots.slots_fit.Statement.{statement}
 use Rattle.damage.proofs.slots.slots_fit.Tie as tie

@@ -5,7 +5,7 @@ use Prim.Native.Nat.{_-_}
 use native.Mathlib.Omega.{arith}
 use Rattle.bits.specs.All.{allBelow}
 use Rattle.tables.specs.Damage.{allIn, vectorFits}
-use Rattle.damage.proofs.Fold.{below-in, scan-again, scan-fails, scan-end}
+use Rattle.tables.proofs.Fold.{below-in, scan-again, scan-fails, scan-end}
 use Rattle.damage.proofs.VectorLaws.{stamp-low}
 use Rattle.damage.proofs.vectors.each_vector_fits.Statement.{statement}
 use Rattle.damage.proofs.vectors.each_vector_fits.Tie as tie

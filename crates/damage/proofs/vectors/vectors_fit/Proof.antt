@@ -2,7 +2,7 @@
 -- Assumes nothing.
 use native.Mathlib.Omega.{arith}
 use borrow.Author.Needs.{needs}
-use Rattle.damage.proofs.ClockLaws.{low-slots}
+use Rattle.tables.proofs.ClockLaws.{low-slots}
 use Rattle.damage.proofs.VectorLaws.{room-for, stamps-low, clear-from-first, each-vector}
 use Rattle.damage.proofs.vectors.vectors_fit.Statement.{statement}
 use Rattle.damage.proofs.vectors.vectors_fit.Tie as tie

@@ -14,14 +14,14 @@ use Rattle.tables.specs.declared.clock.Clock.{Clock}
 use Rattle.tables.specs.Sessions.{freed, sessionAt}
 use Rattle.tables.proofs.session.Session.Laws as SL
 use Rattle.tables.proofs.clock.Clock.Laws as CL
-use Rattle.damage.specs.Judged.{sessionJudged}
+use Rattle.session_damage.specs.Judged.{sessionJudged}
 use Rattle.lent.proofs.sessions.limit as limit
 use Rattle.lent.proofs.sessions.limit.Symbol as limit-def
 use Rattle.lent.proofs.sessions.limit.Symbol.{name as #lent·limit}
 use Rattle.lent.proofs.sessions.limit.Met as limit-thm
 use Rattle.damage.proofs.session_fits as session-fits
 use Rattle.damage.proofs.session_fits.Symbol as session-fits-def
-use Rattle.damage.proofs.session_fits.Symbol.{name as #damage·session-fits}
+use Rattle.session_damage.proofs.session_fits.Symbol.{name as #damage·session-fits}
 use Rattle.damage.proofs.session_fits.Met as session-fits-thm
 use Rattle.lent.proofs.sessions.all_fit.Key.{name as #lent·all-fit}
 use Rattle.lent.proofs.sessions.all_fit as all-fit

@@ -1,0 +1,75 @@
+-- `gathered` meets its contract: a fold over the halves.
+-- Assumes nothing.
+use mathlib.Core.Path.{_≡_}
+use Prim.Native.Nat.{_+_, _-_, _/_, _≤_}
+use native.Mathlib.Omega.{arith}
+use Rattle.bits.specs.OrWords.{orBelow}
+use Rattle.log_damage.proofs.GatherLaws.{pairAt, pairs-none, pairs-more, all-gathered}
+use Rattle.log_damage.proofs.changes.gathered.Statement.{statement}
+use Rattle.log_damage.proofs.changes.gathered.Tie as tie
+
+abbrev Inv-loop : tie.InvT-loop
+Inv-loop cells from n half other all₀ p₀ all p =
+    (half ≡ (n + 1) / 2) × (other ≡ from + n / 2) × (p ≤ half) × (all ≡ orBelow (pairAt cells from other) p)
+
+abbrev μ-loop : tie.MeasureT-loop
+μ-loop cells from n half other all₀ p₀ all p = half - p
+
+add-half : tie.Need-add-half Inv-loop μ-loop
+add-half c = omega arith
+
+add-other : tie.Need-add-other Inv-loop μ-loop
+add-other c = omega arith
+
+loop-holds : tie.Need-loop-holds Inv-loop μ-loop
+loop-holds c = (omega arith, omega arith, omega arith, search pairs-none)
+
+add-all : tie.Need-add-all Inv-loop μ-loop
+add-all c = omega arith
+
+mul-all : tie.Need-mul-all Inv-loop μ-loop
+mul-all c = omega arith
+
+shared-slice-read-all : tie.Need-shared-slice-read-all Inv-loop μ-loop
+shared-slice-read-all c = omega arith
+
+add-all-2 : tie.Need-add-all-2 Inv-loop μ-loop
+add-all-2 c = omega arith
+
+mul-all-2 : tie.Need-mul-all-2 Inv-loop μ-loop
+mul-all-2 c = omega arith
+
+shared-slice-read-all-2 : tie.Need-shared-slice-read-all-2 Inv-loop μ-loop
+shared-slice-read-all-2 c = omega arith
+
+add-p : tie.Need-add-p Inv-loop μ-loop
+add-p c = omega arith
+
+loop-less : tie.Need-loop-less Inv-loop μ-loop
+loop-less c = omega arith
+
+loop-again : tie.Need-loop-again Inv-loop μ-loop
+loop-again c = (omega arith, omega arith, omega arith, search pairs-more)
+
+returns : tie.Need-returns Inv-loop μ-loop
+returns c = search all-gathered
+
+pub gathered-spec : {M : Type 1} → statement M
+gathered-spec =
+    tie.close
+    (tie.spec
+    Inv-loop
+    μ-loop
+    add-half
+    add-other
+    loop-holds
+    add-all
+    mul-all
+    shared-slice-read-all
+    add-all-2
+    mul-all-2
+    shared-slice-read-all-2
+    add-p
+    loop-less
+    loop-again
+    returns)

@@ -1,0 +1,53 @@
+-- `rows_below_each` meets its contract: a fold; the whole is what was found so far and the rest.
+-- Assumes nothing.
+use mathlib.Core.Path.{_≡_, refl}
+use mathlib.Core.Bool.{_&&_}
+use Prim.Native.Nat.{_-_}
+use native.Mathlib.Omega.{arith}
+use Rattle.tables.specs.Damage.{allIn}
+use Rattle.log_damage.specs.Parts.{rowBelow}
+use Rattle.tables.proofs.Fold.{fold-again, fold-end}
+use Rattle.log_damage.proofs.changes.rows_below_each.Statement.{statement}
+use Rattle.log_damage.proofs.changes.rows_below_each.Tie as tie
+
+abbrev Inv-loop : tie.InvT-loop
+Inv-loop changes from to rows ok₀ p₀ ok p = allIn (rowBelow changes (rows .0)) from to ≡ ok && allIn (rowBelow changes (rows .0)) p to
+
+abbrev μ-loop : tie.MeasureT-loop
+μ-loop changes from to rows ok₀ p₀ ok p = to - p
+
+loop-holds : tie.Need-loop-holds Inv-loop μ-loop
+loop-holds c = refl
+
+mul-ok : tie.Need-mul-ok Inv-loop μ-loop
+mul-ok c = omega arith
+
+shared-slice-read-ok : tie.Need-shared-slice-read-ok Inv-loop μ-loop
+shared-slice-read-ok c = omega arith
+
+add-p : tie.Need-add-p Inv-loop μ-loop
+add-p c = omega arith
+
+loop-less : tie.Need-loop-less Inv-loop μ-loop
+loop-less c = omega arith
+
+loop-again : tie.Need-loop-again Inv-loop μ-loop
+unfolding rowBelow
+loop-again c = search fold-again
+
+returns : tie.Need-returns Inv-loop μ-loop
+returns c = search fold-end
+
+pub rows-below-each-spec : {M : Type 1} → statement M
+rows-below-each-spec =
+    tie.close
+    (tie.spec
+    Inv-loop
+    μ-loop
+    loop-holds
+    mul-ok
+    shared-slice-read-ok
+    add-p
+    loop-less
+    loop-again
+    returns)

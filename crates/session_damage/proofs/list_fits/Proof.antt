@@ -1,0 +1,71 @@
+-- `list_fits` meets its contract: a fold; the whole is what was found so far and the rest.
+-- Assumes nothing.
+use mathlib.Core.Path.{_≡_}
+use mathlib.Core.Bool.{_&&_}
+use Prim.Native.Nat.{_-_}
+use native.Mathlib.Omega.{arith}
+use borrow.Author.Needs.{needs}
+use Rattle.bits.specs.All.{allBelow}
+use Rattle.tables.specs.Damage.{allIn}
+use Rattle.session_damage.specs.Parts.{listed}
+use Rattle.tables.proofs.Fold.{below-in, fold-again, fold-end}
+use Rattle.session_damage.proofs.list_fits.Statement.{statement}
+use Rattle.session_damage.proofs.list_fits.Tie as tie
+
+abbrev Inv-loop : tie.InvT-loop
+Inv-loop at to n below c ok₀ i₀ ok i = allBelow (listed c below at to) n ≡ ok && allIn (listed c below at to) i n
+
+abbrev μ-loop : tie.MeasureT-loop
+μ-loop at to n below c ok₀ i₀ ok i = n - i
+
+cast-below : tie.Need-cast-below Inv-loop μ-loop
+cast-below c = omega arith
+
+cast-c : tie.Need-cast-c Inv-loop μ-loop
+cast-c c = omega arith
+
+loop-holds : tie.Need-loop-holds Inv-loop μ-loop
+loop-holds c = search below-in
+
+mul-entry-fits : tie.Need-mul-entry-fits Inv-loop μ-loop
+mul-entry-fits c = omega arith
+
+element-copy-out-entry-fits : tie.Need-element-copy-out-entry-fits Inv-loop μ-loop
+element-copy-out-entry-fits c = omega arith
+
+element-copy-out-entry-fits-2 : tie.Need-element-copy-out-entry-fits-2 Inv-loop μ-loop
+element-copy-out-entry-fits-2 c = omega arith
+
+entry-fits-requires : tie.Need-entry-fits-requires Inv-loop μ-loop
+entry-fits-requires c κs = search needs
+
+add-i : tie.Need-add-i Inv-loop μ-loop
+add-i c = omega arith
+
+loop-less : tie.Need-loop-less Inv-loop μ-loop
+loop-less c = omega arith
+
+loop-again : tie.Need-loop-again Inv-loop μ-loop
+unfolding listed
+loop-again c = search fold-again
+
+returns : tie.Need-returns Inv-loop μ-loop
+returns c = search fold-end
+
+pub list-fits-spec : {M : Type 1} → statement M
+list-fits-spec =
+    tie.close
+    (tie.spec
+    Inv-loop
+    μ-loop
+    cast-below
+    cast-c
+    loop-holds
+    mul-entry-fits
+    element-copy-out-entry-fits
+    element-copy-out-entry-fits-2
+    entry-fits-requires
+    add-i
+    loop-less
+    loop-again
+    returns)
