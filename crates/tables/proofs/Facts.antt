@@ -3,7 +3,7 @@
 use mathlib.Core.Path.{_≡_, sym, ap, _∙_}
 use mathlib.Core.Bool.{Bool, true, _||_}
 use mathlib.Core.List.{List}
-use mathlib.Core.Logic.{_⊎_, inl, inr}
+use mathlib.Core.Logic.{_⊎_, inl, inr, ⊎-elim}
 use Prim.Native.Nat.{ℕ, zero, suc, _+_, _-_, _^_, _≤_, _<_}
 use native.Mathlib.Nat.{eq-or-lt-of-le, le-of-suc-le-suc}
 use native.Mathlib.Numerals.{add-one}
@@ -57,35 +57,11 @@ pub record Parts (t : Tables) : Type 0 where
 
 pub parts : (t : Tables) → sound t ≡ true → Parts t
 unfolding sound
-parts t e =
-    let p = both _ _ e in
-    let q = both _ _ (p .0) in
-    let r = both _ _ (q .0) in
-    let s = both _ _ (r .0) in
-    let u = both _ _ (s .0) in
-    let v = both _ _ (u .0) in
-    record {
-      clock-fits = v .0;
-      records-fit = v .1;
-      changes-fit = u .1;
-      slots-fit = s .1;
-      heads-fit = r .1;
-      vectors-fit = q .1;
-      sessions-fit = p .1;
-    }
+parts t e = search told depth 12
 
 pub whole : (t : Tables) → Parts t → sound t ≡ true
 unfolding sound
-whole t p =
-    and-both _ _
-    (and-both _ _
-    (and-both _ _
-    (and-both _ _
-    (and-both _ _ (and-both _ _ (p .clock-fits) (p .records-fit)) (p .changes-fit))
-    (p .slots-fit))
-    (p .heads-fit))
-    (p .vectors-fit))
-    (p .sessions-fit)
+whole t p = search made depth 12
 
 -- ---- the clock
 
@@ -102,39 +78,11 @@ pub record ClockFacts (c : List ℕ) : Type 0 where
 
 pub clock-facts : (c : List ℕ) → clockFits c ≡ true → ClockFacts c
 unfolding clockFits
-clock-facts c e =
-    let p = both _ _ e in
-    let q = both _ _ (p .0) in
-    let r = both _ _ (q .0) in
-    let s = both _ _ (r .0) in
-    let u = both _ _ (s .0) in
-    let v = both _ _ (u .0) in
-    let w = both _ _ (v .0) in
-    record {
-      values-low = leb-true _ _ (w .0);
-      values-high = leb-true _ _ (w .1);
-      rows-high = leb-true _ _ (v .1);
-      first-high = leb-true _ _ (u .1);
-      stamp-high = leb-true _ _ (s .1);
-      slots-low = leb-true _ _ (r .1);
-      slots-high = leb-true _ _ (q .1);
-      changes-high = leb-true _ _ (p .1);
-    }
+clock-facts c e = search told depth 12
 
 pub clock-made : (c : List ℕ) → ClockFacts c → clockFits c ≡ true
 unfolding clockFits
-clock-made c f =
-    and-both _ _
-    (and-both _ _
-    (and-both _ _
-    (and-both _ _
-    (and-both _ _
-    (and-both _ _ (and-both _ _ (le-leb _ _ (f .values-low)) (le-leb _ _ (f .values-high))) (le-leb _ _ (f .rows-high)))
-    (le-leb _ _ (f .first-high)))
-    (le-leb _ _ (f .stamp-high)))
-    (le-leb _ _ (f .slots-low)))
-    (le-leb _ _ (f .slots-high)))
-    (le-leb _ _ (f .changes-high))
+clock-made c f = search made depth 12
 
 -- the limits as the numbers that code meets
 pub record ClockLimits (c : List ℕ) : Type 0 where
@@ -147,16 +95,7 @@ pub record ClockLimits (c : List ℕ) : Type 0 where
 
 pub clock-limits : (c : List ℕ) → clockFits c ≡ true → ClockLimits c
 unfolding maxValues maxRows maxRecords maxSlots maxChanges
-clock-limits c e =
-    let f = clock-facts c e in
-    record {
-      few-values = f .values-high;
-      few-rows = f .rows-high;
-      few-first = f .first-high;
-      few-records = f .stamp-high;
-      few-slots = f .slots-high;
-      few-changes = f .changes-high;
-    }
+clock-limits c e = let f = clock-facts c e in search
 
 -- ---- the records
 
@@ -174,9 +113,8 @@ pub record RecordFacts (first : ℕ) (log : List ℕ) (k : ℕ) : Type 0 where
   pub rows-rise : rowsAt first log k ≤ rowsAt first log (suc k)
   pub ends-rise : endAt log k ≤ endAt log (suc k)
 
-kind-cases : (n : ℕ) → (eqb n 1 ≡ true) ⊎ (eqb n 2 ≡ true) → (n ≡ 1) ⊎ (n ≡ 2)
-kind-cases n (inl e) = inl (eqb-true n 1 e)
-kind-cases n (inr e) = inr (eqb-true n 2 e)
+kind-cases : (n : ℕ) → eqb n 1 || eqb n 2 ≡ true → (n ≡ 1) ⊎ (n ≡ 2)
+kind-cases n e = ⊎-elim (λ p. inl (eqb-true n 1 p)) (λ p. inr (eqb-true n 2 p)) (either _ _ e)
 
 kind-made : (n : ℕ) → (n ≡ 1) ⊎ (n ≡ 2) → eqb n 1 || eqb n 2 ≡ true
 kind-made n (inl e) = or-left (eqb n 1) (eqb n 2) (eq-eqb n 1 e)
@@ -184,41 +122,22 @@ kind-made n (inr e) = or-right (eqb n 1) (eqb n 2) (eq-eqb n 2 e)
 
 pub record-facts : (first : ℕ) (log : List ℕ) (k : ℕ) → recordFits first log k ≡ true → RecordFacts first log k
 unfolding recordFits
-record-facts first log k e =
-    let p = both _ _ e in
-    let q = both _ _ (p .0) in
-    let r = both _ _ (q .0) in
-    record {
-      bears = eqb-true _ _ (r .0);
-      kinds = kind-cases (recordKind log k) (either _ _ (r .1));
-      rows-rise = leb-true _ _ (q .1);
-      ends-rise = leb-true _ _ (p .1);
-    }
+record-facts first log k e = search (told, kind-cases) depth 12
 
 pub record-made : (first : ℕ) (log : List ℕ) (k : ℕ) → RecordFacts first log k → recordFits first log k ≡ true
 unfolding recordFits
-record-made first log k f =
-    and-both _ _
-    (and-both _ _ (and-both _ _ (eq-eqb _ _ (f .bears)) (kind-made (recordKind log k) (f .kinds)))
-    (le-leb _ _ (f .rows-rise)))
-    (le-leb _ _ (f .ends-rise))
+record-made first log k f = search (made, kind-made) depth 12
 
 module _ (c log : List ℕ) where
   pub records-made : ((k : ℕ) → k < stampIn c → RecordFacts (firstIn c) log k) → endAt log (stampIn c) ≡ changesIn c
       → rowsAt (firstIn c) log (stampIn c) ≡ rowsIn c → recordsFit c log ≡ true
   unfolding recordsFit
-  records-made h p q =
-      and-both _ _
-      (and-both _ _ (all-of (recordFits (firstIn c) log) (stampIn c) (λ k l. record-made (firstIn c) log k (h k l))) (eq-eqb _ _ p))
-      (eq-eqb _ _ q)
+  records-made h p q = search (made, all-of, record-made) depth 12
 
 module _ (c log : List ℕ) (e : recordsFit c log ≡ true) where
   three : (allBelow (recordFits (firstIn c) log) (stampIn c) ≡ true) × (endAt log (stampIn c) ≡ changesIn c) × (rowsAt (firstIn c) log (stampIn c) ≡ rowsIn c)
   unfolding recordsFit
-  three =
-      let p = both _ _ e in
-      let q = both _ _ (p .0) in
-      (q .0, eqb-true _ _ (q .1), eqb-true _ _ (p .1))
+  three = search told depth 12
 
   pub each-record : (k : ℕ) → k < stampIn c → RecordFacts (firstIn c) log k
   each-record k l = record-facts (firstIn c) log k (all-at (recordFits (firstIn c) log) (stampIn c) (three .0) k l)
@@ -275,11 +194,11 @@ pub record ChangeFacts (changes : List ℕ) (values rows p : ℕ) : Type 0 where
 
 pub change-facts : (changes : List ℕ) (values rows p : ℕ) → changeFits changes values rows p ≡ true → ChangeFacts changes values rows p
 unfolding changeFits
-change-facts changes values rows p e = let q = both _ _ e in record { row-low = ltb-true _ _ (q .0); set-low = ltb-true _ _ (q .1) }
+change-facts changes values rows p e = search told
 
 pub change-made : (changes : List ℕ) (values rows p : ℕ) → ChangeFacts changes values rows p → changeFits changes values rows p ≡ true
 unfolding changeFits
-change-made changes values rows p f = and-both _ _ (lt-ltb _ _ (f .row-low)) (lt-ltb _ _ (f .set-low))
+change-made changes values rows p f = search made
 
 module _ (c log changes : List ℕ) where
   -- each change of the record after stamp k

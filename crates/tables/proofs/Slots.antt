@@ -17,7 +17,7 @@ use Rattle.bits.specs.All.{all-at, all-of}
 use Rattle.bits.specs.Tail.{tailClear, tail-bits}
 use Rattle.tables.specs.Cells.{valuesIn, firstIn, stampIn, slotsIn, slotValue, slotStamp, slotLink, slotWords, headOf, rowsAt}
 use Rattle.tables.specs.Damage.{firstSlotFits, laterSlotFits, slotFits, slotsFit, headFits, headsFit, vectorFits, vectorsFit}
-use Rattle.tables.proofs.Tests.{both, and-both}
+use Rattle.tables.proofs.Tests.{told, made}
 
 -- ---- slots
 
@@ -38,14 +38,11 @@ pub record LaterSlot (values stamp : ℕ) (slots : List ℕ) (i : ℕ) : Type 0 
 
 pub first-facts : (slots : List ℕ) (i : ℕ) → firstSlotFits slots i ≡ true → FirstSlot slots i
 unfolding firstSlotFits
-first-facts slots i e =
-    let p = both _ _ e in
-    let q = both _ _ (p .0) in
-    record { own-value = eqb-true _ _ (q .0); no-stamp = eqb-true _ _ (q .1); no-link = eqb-true _ _ (p .1) }
+first-facts slots i e = search told
 
 pub first-made : (slots : List ℕ) (i : ℕ) → FirstSlot slots i → firstSlotFits slots i ≡ true
 unfolding firstSlotFits
-first-made slots i f = and-both _ _ (and-both _ _ (eq-eqb _ _ (f .own-value)) (eq-eqb _ _ (f .no-stamp))) (eq-eqb _ _ (f .no-link))
+first-made slots i f = search made
 
 positive : (n : ℕ) → not (eqb n 0) ≡ true → 0 < n
 positive n e = pos-of-ne-zero (eqb-false n 0 (not-true (eqb n 0) e))
@@ -55,31 +52,11 @@ not-zero n h = ap not (ne-eqb n 0 (λ e. omega arith))
 
 pub later-facts : (values stamp : ℕ) (slots : List ℕ) (i : ℕ) → laterSlotFits values stamp slots i ≡ true → LaterSlot values stamp slots i
 unfolding laterSlotFits
-later-facts values stamp slots i e =
-    let p = both _ _ e in
-    let q = both _ _ (p .0) in
-    let r = both _ _ (q .0) in
-    let s = both _ _ (r .0) in
-    let u = both _ _ (s .0) in
-    record {
-      value-low = ltb-true _ _ (u .0);
-      stamp-low = leb-true _ _ (u .1);
-      linked = positive (slotLink slots i) (s .1);
-      link-low = leb-true _ _ (r .1);
-      link-value = eqb-true _ _ (q .1);
-      link-stamp = ltb-true _ _ (p .1);
-    }
+later-facts values stamp slots i e = search (told, positive) depth 12
 
 pub later-made : (values stamp : ℕ) (slots : List ℕ) (i : ℕ) → LaterSlot values stamp slots i → laterSlotFits values stamp slots i ≡ true
 unfolding laterSlotFits
-later-made values stamp slots i f =
-    and-both _ _
-    (and-both _ _
-    (and-both _ _
-    (and-both _ _ (and-both _ _ (lt-ltb _ _ (f .value-low)) (le-leb _ _ (f .stamp-low))) (not-zero (slotLink slots i) (f .linked)))
-    (le-leb _ _ (f .link-low)))
-    (eq-eqb _ _ (f .link-value)))
-    (lt-ltb _ _ (f .link-stamp))
+later-made values stamp slots i f = search (made, not-zero) depth 12
 
 -- any slot: its link falls, it has none only at stamp 0, and a link keeps the value and lowers the stamp
 pub record SlotFacts (values stamp : ℕ) (slots : List ℕ) (i : ℕ) : Type 0 where
@@ -175,11 +152,11 @@ pub record HeadFacts (used : ℕ) (slots heads : List ℕ) (v : ℕ) : Type 0 wh
 
 pub head-facts : (used : ℕ) (slots heads : List ℕ) (v : ℕ) → headFits used slots heads v ≡ true → HeadFacts used slots heads v
 unfolding headFits
-head-facts used slots heads v e = let p = both _ _ e in record { head-low = ltb-true _ _ (p .0); head-value = eqb-true _ _ (p .1) }
+head-facts used slots heads v e = search told
 
 pub head-made : (used : ℕ) (slots heads : List ℕ) (v : ℕ) → HeadFacts used slots heads v → headFits used slots heads v ≡ true
 unfolding headFits
-head-made used slots heads v f = and-both _ _ (lt-ltb _ _ (f .head-low)) (eq-eqb _ _ (f .head-value))
+head-made used slots heads v f = search made
 
 module _ (c slots heads : List ℕ) where
   pub each-head : headsFit c slots heads ≡ true → (v : ℕ) → v < valuesIn c → HeadFacts (slotsIn c) slots heads v

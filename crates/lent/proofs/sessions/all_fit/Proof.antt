@@ -19,10 +19,10 @@ use Rattle.lent.proofs.sessions.limit as limit
 use Rattle.lent.proofs.sessions.limit.Symbol as limit-def
 use Rattle.lent.proofs.sessions.limit.Symbol.{name as #lent·limit}
 use Rattle.lent.proofs.sessions.limit.Met as limit-thm
-use Rattle.damage.proofs.session_fits as session-fits
-use Rattle.damage.proofs.session_fits.Symbol as session-fits-def
+use Rattle.session_damage.proofs.session_fits as session-fits
+use Rattle.session_damage.proofs.session_fits.Symbol as session-fits-def
 use Rattle.session_damage.proofs.session_fits.Symbol.{name as #damage·session-fits}
-use Rattle.damage.proofs.session_fits.Met as session-fits-thm
+use Rattle.session_damage.proofs.session_fits.Met as session-fits-thm
 use Rattle.lent.proofs.sessions.all_fit.Key.{name as #lent·all-fit}
 use Rattle.lent.proofs.sessions.all_fit as all-fit
 use Rattle.lent.proofs.sessions.all_fit.Statement as stated
@@ -185,4 +185,4 @@ all-fit-spec 𝓤 H 𝓜 𝓖 𝓡 =
     via 𝓤 _ (fst∗ 𝓤 _ (emp 𝓤)) (walk 𝓤 H (𝓖 .A) (givenOf 𝓤 H 𝓜 𝓖) (𝓜 .mem) (𝓡 .run) (κs .0) (qs .0) (a .0 .ptr .0) (a .0 .ptr .1) (a .0 .name) (a .0 .now) (are .0 .0 .1) (κs .1 .0) (qs .1 .0) (a .1 .0 .ptr .0) (a .1 .0 .ptr .1) (a .1 .0 .name) (a .1 .0 .now) (are .1 .0 .0 .1) (a .1 .1 .0) (are .1 .1 .0)
     (tablesOf 𝓤 H 𝓜 (tables 𝓤 H 𝓜 𝓡 code.env)) (fmOf 𝓤 H (givenOf 𝓤 H 𝓜 𝓖 .laws) (tablesOf 𝓤 H 𝓜 (tables 𝓤 H 𝓜 𝓡 code.env)))
     (cited 𝓤 H (Limit 𝓤 H (𝓖 .A) (𝓜 .mem) (𝓡 .run)) 𝓜 𝓡 code.env #lent·limit limit-def.routine code.calls-lent·sessions·limit (limit-thm.met 𝓤 H 𝓜 𝓖 𝓡))
-    (cited 𝓤 H (SessionFits 𝓤 H (𝓖 .A) (𝓜 .mem) (𝓡 .run)) 𝓜 𝓡 code.env #damage·session-fits session-fits-def.routine code.calls-damage·session-fits (session-fits-thm.met 𝓤 H 𝓜 𝓖 𝓡))))
+    (cited 𝓤 H (SessionFits 𝓤 H (𝓖 .A) (𝓜 .mem) (𝓡 .run)) 𝓜 𝓡 code.env #damage·session-fits session-fits-def.routine code.calls-session-damage·session-fits (session-fits-thm.met 𝓤 H 𝓜 𝓖 𝓡))))

@@ -8,11 +8,8 @@ use Rattle.tables.proofs.clock.clock_lent.Tie as tie
 returns : tie.Need-returns
 returns c = search clock-short
 
-clock-of-requires : tie.Need-clock-of-requires
-clock-of-requires c κs = search needs
-
 returns-2 : tie.Need-returns-2
 returns-2 c = search clock-long
 
 pub clock-lent-spec : {M : Type 1} → statement M
-clock-lent-spec = tie.close (tie.spec returns clock-of-requires returns-2)
+clock-lent-spec = tie.close (tie.spec returns (search needs) returns-2)
