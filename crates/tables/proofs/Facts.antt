@@ -99,6 +99,15 @@ clock-limits c e = let f = clock-facts c e in search
 
 -- ---- the records
 
+-- what does not fall from one place to the next does not fall
+rises : (g : ℕ → ℕ) (n : ℕ) → ((k : ℕ) → k < n → g k ≤ g (suc k)) → (a b : ℕ) → a ≤ b → b ≤ n → g a ≤ g b
+rises g n h a zero p q = let z : a ≡ 0 = omega arith in rw z (omega arith)
+rises g n h a (suc b) p q = go (eq-or-lt-of-le p) (λ l. rises g n h a b l (omega arith))
+  where
+    go : (a ≡ suc b) ⊎ (a < suc b) → (a ≤ b → g a ≤ g b) → g a ≤ g (suc b)
+    go (inl z) ih = rw z (omega arith)
+    go (inr l) ih = omega (arith, ih (le-of-suc-le-suc l), h b q)
+
 -- the record after stamp k, as code counts
 pub end-next : (log : List ℕ) (k : ℕ) → endAt log (k + 1) ≡ recordEnd log k
 end-next log k = ap (endAt log) (add-one k)
@@ -149,21 +158,10 @@ module _ (c log : List ℕ) (e : recordsFit c log ≡ true) where
   last-rows = three .2
 
   pub ends-order : (a b : ℕ) → a ≤ b → b ≤ stampIn c → endAt log a ≤ endAt log b
-  ends-order a zero p q = let z : a ≡ 0 = omega arith in rw z (omega arith)
-  ends-order a (suc b) p q = go (eq-or-lt-of-le p) (λ h. ends-order a b h (omega arith))
-    where
-      go : (a ≡ suc b) ⊎ (a < suc b) → (a ≤ b → endAt log a ≤ endAt log b) → endAt log a ≤ endAt log (suc b)
-      go (inl z) ih = rw z (omega arith)
-      go (inr l) ih = omega (arith, ih (le-of-suc-le-suc l), each-record b q .ends-rise)
+  ends-order = rises (endAt log) (stampIn c) (λ k l. each-record k l .ends-rise)
 
   pub rows-order : (a b : ℕ) → a ≤ b → b ≤ stampIn c → rowsAt (firstIn c) log a ≤ rowsAt (firstIn c) log b
-  rows-order a zero p q = let z : a ≡ 0 = omega arith in rw z (omega arith)
-  rows-order a (suc b) p q = go (eq-or-lt-of-le p) (λ h. rows-order a b h (omega arith))
-    where
-      go : (a ≡ suc b) ⊎ (a < suc b) → (a ≤ b → rowsAt (firstIn c) log a ≤ rowsAt (firstIn c) log b)
-          → rowsAt (firstIn c) log a ≤ rowsAt (firstIn c) log (suc b)
-      go (inl z) ih = rw z (omega arith)
-      go (inr l) ih = omega (arith, ih (le-of-suc-le-suc l), each-record b q .rows-rise)
+  rows-order = rises (rowsAt (firstIn c) log) (stampIn c) (λ k l. each-record k l .rows-rise)
 
   -- the ends lie in the change table, the row counts are at most the current one
   pub end-high : (s : ℕ) → s ≤ stampIn c → endAt log s ≤ changesIn c

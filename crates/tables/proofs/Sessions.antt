@@ -18,7 +18,7 @@ use Rattle.tables.specs.declared.session.Session.{Session}
 use Rattle.tables.specs.Cells.{Tables, valuesIn, firstIn, stampIn, rowsIn, rowsAt}
 use Rattle.tables.specs.Sessions.{freed, sessionAt}
 use Rattle.tables.specs.Damage.{clockFits, recordsFit, entryZero, allZero, entryFits, onceFits, openFits, sessionFits, sessionsFit}
-use Rattle.tables.proofs.Tests.{both, and-both, either, or-left, or-right}
+use Rattle.tables.proofs.Tests.{told, made, either, or-left, or-right}
 use Rattle.tables.proofs.Facts.{clock-limits, rows-high-at}
 
 -- ---- a free session
@@ -32,34 +32,25 @@ pub record ZeroFacts (x : Session) : Type 0 where
   pub at-zero : (i : ℕ) → i < 32 → _≡_ {A = ℕ} (getD (x .at) i 0) 0
   pub to-zero : (i : ℕ) → i < 32 → _≡_ {A = ℕ} (getD (x .to) i 0) 0
 
-entry-zero : (x : Session) (i : ℕ) → entryZero x i ≡ true → (_≡_ {A = ℕ} (getD (x .at) i 0) 0) × (_≡_ {A = ℕ} (getD (x .to) i 0) 0)
-unfolding entryZero
-entry-zero x i e = let p = both _ _ e in (eqb-true _ _ (p .0), eqb-true _ _ (p .1))
+module _ (x : Session) (e : allBelow (entryZero x) 32 ≡ true) (i : ℕ) (l : i < 32) where
+  entry-zero : entryZero x i ≡ true
+  entry-zero = all-at (entryZero x) 32 e i l
+
+  row-zero : _≡_ {A = ℕ} (getD (x .at) i 0) 0
+  unfolding entryZero
+  row-zero = let z = entry-zero in search told
+
+  target-zero : _≡_ {A = ℕ} (getD (x .to) i 0) 0
+  unfolding entryZero
+  target-zero = let z = entry-zero in search told
 
 pub zero-facts : (x : Session) → allZero x ≡ true → ZeroFacts x
 unfolding allZero maxEntries
-zero-facts x e =
-    let p = both _ _ e in
-    let q = both _ _ (p .0) in
-    let r = both _ _ (q .0) in
-    let s = both _ _ (r .0) in
-    record {
-      live-zero = eqb-true _ _ (s .0);
-      start-zero = eqb-true _ _ (s .1);
-      rows-zero = eqb-true _ _ (r .1);
-      count-zero = eqb-true _ _ (q .1);
-      at-zero = λ i l. entry-zero x i (all-at (entryZero x) 32 (p .1) i l) .0;
-      to-zero = λ i l. entry-zero x i (all-at (entryZero x) 32 (p .1) i l) .1;
-    }
+zero-facts x e = search (told, row-zero, target-zero) depth 12
 
 pub zero-made : (x : Session) → ZeroFacts x → allZero x ≡ true
 unfolding allZero entryZero maxEntries
-zero-made x f =
-    and-both _ _
-    (and-both _ _
-    (and-both _ _ (and-both _ _ (eq-eqb _ _ (f .live-zero)) (eq-eqb _ _ (f .start-zero))) (eq-eqb _ _ (f .rows-zero)))
-    (eq-eqb _ _ (f .count-zero)))
-    (all-of (entryZero x) 32 (λ i l. and-both _ _ (eq-eqb _ _ (f .at-zero i l)) (eq-eqb _ _ (f .to-zero i l))))
+zero-made x f = search (made, all-of, f .at-zero, f .to-zero) depth 12
 
 -- its cells are those of `freed`
 zeros : (l : List ℕ) (n : ℕ) → length l ≡ n → ((i : ℕ) → i < n → _≡_ {A = ℕ} (getD l i 0) 0) → l ≡ replicate n 0
@@ -103,17 +94,14 @@ pub record OpenFacts (values first stamp : ℕ) (log : List ℕ) (x : Session) :
   pub entry-cases : (i : ℕ) → i < x .count → EntryCases values (x .rows .0) (getD (x .at) i 0) (getD (x .to) i 0)
   pub listed-once : (i j : ℕ) → i < x .count → j < i → (getD (x .at) i 0 ≡ 65535 → ⊥) → getD (x .at) j 0 ≡ getD (x .at) i 0 → ⊥
 
-target-cases : (values to : ℕ) → (ltb to values ≡ true) ⊎ (eqb to 255 ≡ true) → (to < values) ⊎ (to ≡ 255)
-target-cases values to (inl e) = inl (ltb-true to values e)
-target-cases values to (inr e) = inr (eqb-true to 255 e)
+target-cases : (values to : ℕ) → ltb to values || eqb to 255 ≡ true → (to < values) ⊎ (to ≡ 255)
+target-cases values to e = ⊎-elim (λ p. inl (ltb-true to values p)) (λ p. inr (eqb-true to 255 p)) (either _ _ e)
 
 pub entry-facts : (values rows at to : ℕ) → entryFits values rows at to ≡ true → EntryCases values rows at to
 unfolding entryFits
-entry-facts values rows at to e = go (either _ _ e)
-  where
-    go : (ltb at rows && (ltb to values || eqb to 255) ≡ true) ⊎ (eqb at 65535 && ltb to values ≡ true) → EntryCases values rows at to
-    go (inl p) = let q = both _ _ p in inl (ltb-true at rows (q .0), target-cases values to (either _ _ (q .1)))
-    go (inr p) = let q = both _ _ p in inr (eqb-true at 65535 (q .0), ltb-true to values (q .1))
+entry-facts values rows at to e =
+    ⊎-elim (λ p. inl (search (told, target-cases))) (λ p. inr (search told))
+    (either (ltb at rows && (ltb to values || eqb to 255)) (eqb at 65535 && ltb to values) e)
 
 target-made : (values to : ℕ) → (to < values) ⊎ (to ≡ 255) → ltb to values || eqb to 255 ≡ true
 target-made values to (inl h) = or-left (ltb to values) (eqb to 255) (lt-ltb to values h)
@@ -121,12 +109,8 @@ target-made values to (inr h) = or-right (ltb to values) (eqb to 255) (eq-eqb to
 
 pub entry-made : (values rows at to : ℕ) → EntryCases values rows at to → entryFits values rows at to ≡ true
 unfolding entryFits
-entry-made values rows at to (inl p) =
-    or-left (ltb at rows && (ltb to values || eqb to 255)) (eqb at 65535 && ltb to values)
-    (and-both (ltb at rows) (ltb to values || eqb to 255) (lt-ltb at rows (p .0)) (target-made values to (p .1)))
-entry-made values rows at to (inr p) =
-    or-right (ltb at rows && (ltb to values || eqb to 255)) (eqb at 65535 && ltb to values)
-    (and-both (eqb at 65535) (ltb to values) (eq-eqb at 65535 (p .0)) (lt-ltb to values (p .1)))
+entry-made values rows at to (inl p) = search (made, or-left, target-made) depth 8
+entry-made values rows at to (inr p) = search (made, or-right) depth 8
 
 -- the test that no entry before i has its row
 abbrev other : Session → ℕ → ℕ → Bool
@@ -148,36 +132,23 @@ once-made x i h =
     or-right (eqb (getD (x .at) i 0) 65535) (allBelow (other x i) i)
     (all-of (other x i) i (λ j l. ap not (ne-eqb _ _ (h j l n))))) (eq-cases (getD (x .at) i 0) 65535)
 
+module _ (values : ℕ) (x : Session) (i : ℕ) (l : i < x .count) where
+  abbrev entry : ℕ → Bool
+  entry k = entryFits values (x .rows .0) (getD (x .at) k 0) (getD (x .to) k 0)
+
+  case-at : allBelow entry (x .count) ≡ true → EntryCases values (x .rows .0) (getD (x .at) i 0) (getD (x .to) i 0)
+  case-at e = entry-facts values (x .rows .0) (getD (x .at) i 0) (getD (x .to) i 0) (all-at entry (x .count) e i l)
+
+  once-at : allBelow (onceFits x) (x .count) ≡ true → (j : ℕ) → j < i → (getD (x .at) i 0 ≡ 65535 → ⊥) → getD (x .at) j 0 ≡ getD (x .at) i 0 → ⊥
+  once-at e j = once-facts x i j (all-at (onceFits x) (x .count) e i l)
+
 pub open-facts : (values first stamp : ℕ) (log : List ℕ) (x : Session) → openFits values first stamp log x ≡ true → OpenFacts values first stamp log x
 unfolding openFits maxEntries
-open-facts values first stamp log x e =
-    let p = both _ _ e in
-    let q = both _ _ (p .0) in
-    let r = both _ _ (q .0) in
-    let s = both _ _ (r .0) in
-    let u = both _ _ (s .0) in
-    record {
-      live-one = eqb-true _ _ (u .0);
-      start-old = leb-true _ _ (u .1);
-      rows-then = eqb-true _ _ (s .1);
-      count-low = leb-true _ _ (r .1);
-      entry-cases =
-          λ i l. entry-facts values (x .rows .0) (getD (x .at) i 0) (getD (x .to) i 0)
-          (all-at (λ k. entryFits values (x .rows .0) (getD (x .at) k 0) (getD (x .to) k 0)) (x .count) (q .1) i l);
-      listed-once = λ i j l m. once-facts x i j (all-at (onceFits x) (x .count) (p .1) i l) m;
-    }
+open-facts values first stamp log x e = search (told, case-at, once-at) depth 12
 
 pub open-made : (values first stamp : ℕ) (log : List ℕ) (x : Session) → OpenFacts values first stamp log x → openFits values first stamp log x ≡ true
 unfolding openFits maxEntries
-open-made values first stamp log x f =
-    and-both _ _
-    (and-both _ _
-    (and-both _ _
-    (and-both _ _ (and-both _ _ (eq-eqb _ _ (f .live-one)) (le-leb _ _ (f .start-old))) (eq-eqb _ _ (f .rows-then)))
-    (le-leb _ _ (f .count-low)))
-    (all-of (λ i. entryFits values (x .rows .0) (getD (x .at) i 0) (getD (x .to) i 0)) (x .count)
-    (λ i l. entry-made values (x .rows .0) (getD (x .at) i 0) (getD (x .to) i 0) (f .entry-cases i l))))
-    (all-of (onceFits x) (x .count) (λ i l. once-made x i (λ j m. f .listed-once i j l m)))
+open-made values first stamp log x f = search (made, all-of, entry-made, once-made, f .entry-cases, f .listed-once) depth 12
 
 -- ---- any session
 
