@@ -16,17 +16,8 @@ returns-2 c = search many-rows
 returns-3 : tie.Need-returns-3
 returns-3 c = search many-values
 
-wide-requires : tie.Need-wide-requires
-wide-requires c κs = search needs
-
-list-plain-requires : tie.Need-list-plain-requires
-list-plain-requires c κs = search needs
-
 returns-4 : tie.Need-returns-4
 returns-4 c = search (plain-list, c .before .list-plain .ensures)
-
-list-fits-requires : tie.Need-list-fits-requires
-list-fits-requires c κs = search needs
 
 returns-5 : tie.Need-returns-5
 returns-5 c = search bad-entry
@@ -47,15 +38,5 @@ returns-7 c = search once-decides
 pub entries-fit-spec : {M : Type 1} → statement M
 entries-fit-spec =
     tie.close
-    (tie.spec
-    returns
-    returns-2
-    returns-3
-    wide-requires
-    list-plain-requires
-    returns-4
-    list-fits-requires
-    returns-5
-    returns-6
-    listed-once-requires
-    returns-7)
+    (tie.spec returns returns-2 returns-3 (search needs) (search needs) returns-4 (search needs) returns-5 returns-6
+    listed-once-requires returns-7)

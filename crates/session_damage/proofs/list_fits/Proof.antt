@@ -18,29 +18,8 @@ Inv-loop at to n below c ok₀ i₀ ok i = allBelow (listed c below at to) n ≡
 abbrev μ-loop : tie.MeasureT-loop
 μ-loop at to n below c ok₀ i₀ ok i = n - i
 
-cast-below : tie.Need-cast-below Inv-loop μ-loop
-cast-below c = omega arith
-
-cast-c : tie.Need-cast-c Inv-loop μ-loop
-cast-c c = omega arith
-
 loop-holds : tie.Need-loop-holds Inv-loop μ-loop
 loop-holds c = search below-in
-
-mul-entry-fits : tie.Need-mul-entry-fits Inv-loop μ-loop
-mul-entry-fits c = omega arith
-
-element-copy-out-entry-fits : tie.Need-element-copy-out-entry-fits Inv-loop μ-loop
-element-copy-out-entry-fits c = omega arith
-
-element-copy-out-entry-fits-2 : tie.Need-element-copy-out-entry-fits-2 Inv-loop μ-loop
-element-copy-out-entry-fits-2 c = omega arith
-
-entry-fits-requires : tie.Need-entry-fits-requires Inv-loop μ-loop
-entry-fits-requires c κs = search needs
-
-add-i : tie.Need-add-i Inv-loop μ-loop
-add-i c = omega arith
 
 loop-less : tie.Need-loop-less Inv-loop μ-loop
 loop-less c = omega arith
@@ -55,17 +34,5 @@ returns c = search fold-end
 pub list-fits-spec : {M : Type 1} → statement M
 list-fits-spec =
     tie.close
-    (tie.spec
-    Inv-loop
-    μ-loop
-    cast-below
-    cast-c
-    loop-holds
-    mul-entry-fits
-    element-copy-out-entry-fits
-    element-copy-out-entry-fits-2
-    entry-fits-requires
-    add-i
-    loop-less
-    loop-again
-    returns)
+    (tie.spec Inv-loop μ-loop (omega arith) (omega arith) loop-holds (omega arith) (omega arith) (omega arith) (search needs)
+    (omega arith) loop-less loop-again returns)

@@ -16,30 +16,6 @@ abbrev μ-loop : tie.MeasureT-loop
 loop-holds : tie.Need-loop-holds Inv-loop μ-loop
 loop-holds c = (omega arith, search plain-none)
 
-mul-long : tie.Need-mul-long Inv-loop μ-loop
-mul-long c = omega arith
-
-element-copy-out-long : tie.Need-element-copy-out-long Inv-loop μ-loop
-element-copy-out-long c = omega arith
-
-long-requires : tie.Need-long-requires Inv-loop μ-loop
-long-requires c κs = search needs
-
-element-copy-out-wide-byte : tie.Need-element-copy-out-wide-byte Inv-loop μ-loop
-element-copy-out-wide-byte c = omega arith
-
-wide-byte-requires : tie.Need-wide-byte-requires Inv-loop μ-loop
-wide-byte-requires c κs = search needs
-
-was-seen-requires : tie.Need-was-seen-requires Inv-loop μ-loop
-was-seen-requires c κs = search needs
-
-with-seen-requires : tie.Need-with-seen-requires Inv-loop μ-loop
-with-seen-requires c κs = search needs
-
-add-i : tie.Need-add-i Inv-loop μ-loop
-add-i c = omega arith
-
 loop-less : tie.Need-loop-less Inv-loop μ-loop
 loop-less c = omega arith
 
@@ -52,18 +28,5 @@ returns c = plain-end _ _ _ _ _ _ _ _ (c .before .loop .inv .1) (omega arith) (o
 pub list-plain-spec : {M : Type 1} → statement M
 list-plain-spec =
     tie.close
-    (tie.spec
-    Inv-loop
-    μ-loop
-    loop-holds
-    mul-long
-    element-copy-out-long
-    long-requires
-    element-copy-out-wide-byte
-    wide-byte-requires
-    was-seen-requires
-    with-seen-requires
-    add-i
-    loop-less
-    loop-again
-    returns)
+    (tie.spec Inv-loop μ-loop loop-holds (omega arith) (omega arith) (search needs) (omega arith) (search needs) (search needs)
+    (search needs) (omega arith) loop-less loop-again returns)

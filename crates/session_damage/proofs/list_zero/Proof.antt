@@ -18,18 +18,6 @@ abbrev μ-loop : tie.MeasureT-loop
 loop-holds : tie.Need-loop-holds Inv-loop μ-loop
 loop-holds c = (omega arith, search or-zero, search or-zero)
 
-mul-rows : tie.Need-mul-rows Inv-loop μ-loop
-mul-rows c = omega arith
-
-element-copy-out-rows : tie.Need-element-copy-out-rows Inv-loop μ-loop
-element-copy-out-rows c = omega arith
-
-element-copy-out-targets : tie.Need-element-copy-out-targets Inv-loop μ-loop
-element-copy-out-targets c = omega arith
-
-add-i : tie.Need-add-i Inv-loop μ-loop
-add-i c = omega arith
-
 loop-less : tie.Need-loop-less Inv-loop μ-loop
 loop-less c = omega arith
 
@@ -42,14 +30,4 @@ returns c = search zero-gathered
 pub list-zero-spec : {M : Type 1} → statement M
 list-zero-spec =
     tie.close
-    (tie.spec
-    Inv-loop
-    μ-loop
-    loop-holds
-    mul-rows
-    element-copy-out-rows
-    element-copy-out-targets
-    add-i
-    loop-less
-    loop-again
-    returns)
+    (tie.spec Inv-loop μ-loop loop-holds (omega arith) (omega arith) (omega arith) (omega arith) loop-less loop-again returns)

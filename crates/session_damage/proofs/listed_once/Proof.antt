@@ -22,21 +22,6 @@ abbrev μ-loop : tie.MeasureT-loop
 loop-holds : tie.Need-loop-holds Inv-loop μ-loop
 loop-holds c = (search below-in, search seen-none)
 
-mul-if1 : tie.Need-mul-if1 Inv-loop μ-loop
-mul-if1 c = omega arith
-
-element-copy-out-if1 : tie.Need-element-copy-out-if1 Inv-loop μ-loop
-element-copy-out-if1 c = omega arith
-
-mul-wide-short : tie.Need-mul-wide-short Inv-loop μ-loop
-mul-wide-short c = omega arith
-
-element-copy-out-wide-short : tie.Need-element-copy-out-wide-short Inv-loop μ-loop
-element-copy-out-wide-short c = omega arith
-
-wide-short-requires : tie.Need-wide-short-requires Inv-loop μ-loop
-wide-short-requires c κs = search needs
-
 get-in-requires : tie.Need-get-in-requires Inv-loop μ-loop
 get-in-requires c κs = search row-low
 
@@ -45,9 +30,6 @@ returns c = search row-twice
 
 put-in-requires : tie.Need-put-in-requires Inv-loop μ-loop
 put-in-requires c κs = search row-low
-
-add-i : tie.Need-add-i Inv-loop μ-loop
-add-i c = omega arith
 
 loop-less : tie.Need-loop-less Inv-loop μ-loop
 loop-less c = omega arith
@@ -61,19 +43,5 @@ returns-2 c = search scan-end
 pub listed-once-spec : {M : Type 1} → statement M
 listed-once-spec =
     tie.close
-    (tie.spec
-    Inv-loop
-    μ-loop
-    loop-holds
-    mul-if1
-    element-copy-out-if1
-    mul-wide-short
-    element-copy-out-wide-short
-    wide-short-requires
-    get-in-requires
-    returns
-    put-in-requires
-    add-i
-    loop-less
-    loop-again
-    returns-2)
+    (tie.spec Inv-loop μ-loop loop-holds (omega arith) (omega arith) (omega arith) (omega arith) (search needs) get-in-requires
+    returns put-in-requires (omega arith) loop-less loop-again returns-2)

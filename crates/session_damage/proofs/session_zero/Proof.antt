@@ -5,11 +5,8 @@ use Rattle.session_damage.proofs.EntryLaws.{zero-session}
 use Rattle.session_damage.proofs.session_zero.Statement.{statement}
 use Rattle.session_damage.proofs.session_zero.Tie as tie
 
-list-zero-requires : tie.Need-list-zero-requires
-list-zero-requires c κs = search needs
-
 returns : tie.Need-returns
 returns c = search zero-session
 
 pub session-zero-spec : {M : Type 1} → statement M
-session-zero-spec = tie.close (tie.spec list-zero-requires returns)
+session-zero-spec = tie.close (tie.spec (search needs) returns)

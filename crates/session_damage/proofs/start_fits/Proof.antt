@@ -14,11 +14,8 @@ returns-2 c = search high-start
 returns-3 : tie.Need-returns-3
 returns-3 c = search short-log
 
-rows-at-requires : tie.Need-rows-at-requires
-rows-at-requires c κs = search needs
-
 returns-4 : tie.Need-returns-4
 returns-4 c = search known-start
 
 pub start-fits-spec : {M : Type 1} → statement M
-start-fits-spec = tie.close (tie.spec returns returns-2 returns-3 rows-at-requires returns-4)
+start-fits-spec = tie.close (tie.spec returns returns-2 returns-3 (search needs) returns-4)

@@ -7,15 +7,9 @@ use Rattle.bits.specs.Bit.{setBit, one-shl}
 use Rattle.session_damage.proofs.with_seen.Statement.{statement}
 use Rattle.session_damage.proofs.with_seen.Tie as tie
 
-cast-result : tie.Need-cast-result
-cast-result c = search needs
-
-shl-result : tie.Need-shl-result
-shl-result c = search needs
-
 returns : tie.Need-returns
 unfolding setBit
 returns c = rw (one-shl 64 (c .args .row % 64) (omega arith))
 
 pub with-seen-spec : {M : Type 1} → statement M
-with-seen-spec = tie.close (tie.spec cast-result shl-result returns)
+with-seen-spec = tie.close (tie.spec (search needs) (search needs) returns)

@@ -6,9 +6,6 @@ use Rattle.damage.proofs.NumberLaws.{found-clock, found-records, found-
 use Rattle.damage.proofs.numbers.numbers_fit.Statement.{statement}
 use Rattle.damage.proofs.numbers.numbers_fit.Tie as tie
 
-clock-fits-requires : tie.Need-clock-fits-requires
-clock-fits-requires c κs = search needs
-
 returns : tie.Need-returns
 returns c = search bad-clock
 
@@ -45,16 +42,5 @@ returns-6 c = search (vectors-decide, found-clock, found-records, found-changes,
 pub numbers-fit-spec : {M : Type 1} → statement M
 numbers-fit-spec =
     tie.close
-    (tie.spec
-    clock-fits-requires
-    returns
-    records-fit-requires
-    returns-2
-    changes-fit-requires
-    returns-3
-    slots-fit-requires
-    returns-4
-    heads-fit-requires
-    returns-5
-    vectors-fit-requires
-    returns-6)
+    (tie.spec (search needs) returns records-fit-requires returns-2 changes-fit-requires returns-3 slots-fit-requires returns-4
+    heads-fit-requires returns-5 vectors-fit-requires returns-6)

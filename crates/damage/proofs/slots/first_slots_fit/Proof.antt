@@ -19,12 +19,6 @@ abbrev μ-loop : tie.MeasureT-loop
 loop-holds : tie.Need-loop-holds Inv-loop μ-loop
 loop-holds c = search below-in
 
-first-slot-fits-requires : tie.Need-first-slot-fits-requires Inv-loop μ-loop
-first-slot-fits-requires c κs = omega arith
-
-add-i : tie.Need-add-i Inv-loop μ-loop
-add-i c = omega arith
-
 loop-less : tie.Need-loop-less Inv-loop μ-loop
 loop-less c = omega arith
 
@@ -35,14 +29,4 @@ returns : tie.Need-returns Inv-loop μ-loop
 returns c = search fold-end
 
 pub first-slots-fit-spec : {M : Type 1} → statement M
-first-slots-fit-spec =
-    tie.close
-    (tie.spec
-    Inv-loop
-    μ-loop
-    loop-holds
-    first-slot-fits-requires
-    add-i
-    loop-less
-    loop-again
-    returns)
+first-slots-fit-spec = tie.close (tie.spec Inv-loop μ-loop loop-holds (omega arith) (omega arith) loop-less loop-again returns)

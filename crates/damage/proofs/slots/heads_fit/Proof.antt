@@ -17,26 +17,11 @@ Inv-loop clock slots heads values used v₀ v = (values ≤ 32) × (used ≤ 96)
 abbrev μ-loop : tie.MeasureT-loop
 μ-loop clock slots heads values used v₀ v = values - v
 
-shared-slice-read-values : tie.Need-shared-slice-read-values Inv-loop μ-loop
-shared-slice-read-values c = search needs
-
-slots-used-requires : tie.Need-slots-used-requires Inv-loop μ-loop
-slots-used-requires c κs = search needs
-
-wide-requires : tie.Need-wide-requires Inv-loop μ-loop
-wide-requires c κs = search needs
-
 loop-holds : tie.Need-loop-holds Inv-loop μ-loop
 loop-holds c = (search low-values, search low-slots, search all-heads)
 
-head-fits-requires : tie.Need-head-fits-requires Inv-loop μ-loop
-head-fits-requires c κs = omega arith
-
 returns : tie.Need-returns Inv-loop μ-loop
 returns c = search scan-fails
-
-add-v : tie.Need-add-v Inv-loop μ-loop
-add-v c = omega arith
 
 loop-less : tie.Need-loop-less Inv-loop μ-loop
 loop-less c = omega arith
@@ -50,16 +35,5 @@ returns-2 c = search scan-end
 pub heads-fit-spec : {M : Type 1} → statement M
 heads-fit-spec =
     tie.close
-    (tie.spec
-    Inv-loop
-    μ-loop
-    shared-slice-read-values
-    slots-used-requires
-    wide-requires
-    loop-holds
-    head-fits-requires
-    returns
-    add-v
-    loop-less
-    loop-again
-    returns-2)
+    (tie.spec Inv-loop μ-loop (search needs) (search needs) (search needs) loop-holds (omega arith) returns (omega arith) loop-less
+    loop-again returns-2)

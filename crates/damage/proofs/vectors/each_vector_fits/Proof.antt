@@ -25,9 +25,6 @@ vector-fits-requires c κs = (omega arith, omega arith, omega arith, omega arith
 returns : tie.Need-returns Inv-loop μ-loop
 returns c = search scan-fails
 
-add-i : tie.Need-add-i Inv-loop μ-loop
-add-i c = omega arith
-
 loop-less : tie.Need-loop-less Inv-loop μ-loop
 loop-less c = omega arith
 
@@ -40,13 +37,4 @@ returns-2 c = search scan-end
 pub each-vector-fits-spec : {M : Type 1} → statement M
 each-vector-fits-spec =
     tie.close
-    (tie.spec
-    Inv-loop
-    μ-loop
-    loop-holds
-    vector-fits-requires
-    returns
-    add-i
-    loop-less
-    loop-again
-    returns-2)
+    (tie.spec Inv-loop μ-loop loop-holds vector-fits-requires returns (omega arith) loop-less loop-again returns-2)

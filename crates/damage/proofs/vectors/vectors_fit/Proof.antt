@@ -7,18 +7,6 @@ use Rattle.damage.proofs.VectorLaws.{room-for, stamps-low, clear-from-f
 use Rattle.damage.proofs.vectors.vectors_fit.Statement.{statement}
 use Rattle.damage.proofs.vectors.vectors_fit.Tie as tie
 
-clock-of-requires : tie.Need-clock-of-requires
-clock-of-requires c κs = search needs
-
-slots-used-requires : tie.Need-slots-used-requires
-slots-used-requires c κs = search needs
-
-wide-requires : tie.Need-wide-requires
-wide-requires c κs = search needs
-
-wide-requires-2 : tie.Need-wide-requires-2
-wide-requires-2 c κs = search needs
-
 tails-clear-requires : tie.Need-tails-clear-requires
 tails-clear-requires c κs = search (room-for, low-slots)
 
@@ -34,12 +22,5 @@ returns-2 c = search each-vector
 pub vectors-fit-spec : {M : Type 1} → statement M
 vectors-fit-spec =
     tie.close
-    (tie.spec
-    clock-of-requires
-    slots-used-requires
-    wide-requires
-    wide-requires-2
-    tails-clear-requires
-    returns
-    each-vector-fits-requires
+    (tie.spec (search needs) (search needs) (search needs) (search needs) tails-clear-requires returns each-vector-fits-requires
     returns-2)

@@ -15,38 +15,11 @@ Inv-loop log k n step rows e₀ e = (k ≤ e) × (e < n) × (rows ≡ recordRows
 abbrev μ-loop : tie.MeasureT-loop
 μ-loop log k n step rows e₀ e = n - e
 
-add-rows : tie.Need-add-rows Inv-loop μ-loop
-add-rows c = omega arith
-
-mul-rows : tie.Need-mul-rows Inv-loop μ-loop
-mul-rows c = omega arith
-
-shared-slice-read-rows : tie.Need-shared-slice-read-rows Inv-loop μ-loop
-shared-slice-read-rows c = omega arith
-
 loop-holds : tie.Need-loop-holds Inv-loop μ-loop
 loop-holds c = (omega arith, omega arith, refl, refl)
 
-add-loop : tie.Need-add-loop Inv-loop μ-loop
-add-loop c = omega arith
-
-add-if1 : tie.Need-add-if1 Inv-loop μ-loop
-add-if1 c = omega arith
-
-add-if1-2 : tie.Need-add-if1-2 Inv-loop μ-loop
-add-if1-2 c = omega arith
-
-mul-if1 : tie.Need-mul-if1 Inv-loop μ-loop
-mul-if1 c = omega arith
-
-shared-slice-read-if1 : tie.Need-shared-slice-read-if1 Inv-loop μ-loop
-shared-slice-read-if1 c = omega arith
-
 returns : tie.Need-returns Inv-loop μ-loop
 returns c = search alike-made
-
-add-e : tie.Need-add-e Inv-loop μ-loop
-add-e c = omega arith
 
 loop-less : tie.Need-loop-less Inv-loop μ-loop
 loop-less c = omega arith
@@ -60,20 +33,5 @@ returns-2 c = search alike-made
 pub alike-by-spec : {M : Type 1} → statement M
 alike-by-spec =
     tie.close
-    (tie.spec
-    Inv-loop
-    μ-loop
-    add-rows
-    mul-rows
-    shared-slice-read-rows
-    loop-holds
-    add-loop
-    add-if1
-    add-if1-2
-    mul-if1
-    shared-slice-read-if1
-    returns
-    add-e
-    loop-less
-    loop-again
-    returns-2)
+    (tie.spec Inv-loop μ-loop (omega arith) (omega arith) (omega arith) loop-holds (omega arith) (omega arith) (omega arith)
+    (omega arith) (omega arith) returns (omega arith) loop-less loop-again returns-2)

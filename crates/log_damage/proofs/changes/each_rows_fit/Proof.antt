@@ -26,38 +26,11 @@ abbrev μ-loop : tie.MeasureT-loop
 loop-holds : tie.Need-loop-holds Inv-loop μ-loop
 loop-holds c = (refl, search below-in)
 
-last-alike-requires : tie.Need-last-alike-requires Inv-loop μ-loop
-last-alike-requires c κs = search needs
-
-add-wide : tie.Need-add-wide Inv-loop μ-loop
-add-wide c = omega arith
-
-mul-wide : tie.Need-mul-wide Inv-loop μ-loop
-mul-wide c = omega arith
-
-shared-slice-read-wide : tie.Need-shared-slice-read-wide Inv-loop μ-loop
-shared-slice-read-wide c = omega arith
-
-add-wide-2 : tie.Need-add-wide-2 Inv-loop μ-loop
-add-wide-2 c = omega arith
-
-mul-wide-2 : tie.Need-mul-wide-2 Inv-loop μ-loop
-mul-wide-2 c = omega arith
-
-shared-slice-read-wide-2 : tie.Need-shared-slice-read-wide-2 Inv-loop μ-loop
-shared-slice-read-wide-2 c = omega arith
-
-wide-requires : tie.Need-wide-requires Inv-loop μ-loop
-wide-requires c κs = search needs
-
 rows-below-requires : tie.Need-rows-below-requires Inv-loop μ-loop
 rows-below-requires c κs = (search stretch-order, search stretch-low, omega arith)
 
 returns : tie.Need-returns Inv-loop μ-loop
 returns c = search stretch-fails
-
-add-k : tie.Need-add-k Inv-loop μ-loop
-add-k c = omega arith
 
 loop-less : tie.Need-loop-less Inv-loop μ-loop
 loop-less c = omega arith
@@ -71,21 +44,5 @@ returns-2 c = search scan-end
 pub each-rows-fit-spec : {M : Type 1} → statement M
 each-rows-fit-spec =
     tie.close
-    (tie.spec
-    Inv-loop
-    μ-loop
-    loop-holds
-    last-alike-requires
-    add-wide
-    mul-wide
-    shared-slice-read-wide
-    add-wide-2
-    mul-wide-2
-    shared-slice-read-wide-2
-    wide-requires
-    rows-below-requires
-    returns
-    add-k
-    loop-less
-    loop-again
-    returns-2)
+    (tie.spec Inv-loop μ-loop loop-holds (search needs) (omega arith) (omega arith) (omega arith) (omega arith) (omega arith)
+    (omega arith) (search needs) rows-below-requires returns (omega arith) loop-less loop-again returns-2)

@@ -15,35 +15,8 @@ Inv-loop cells from n half other all₀ p₀ all p =
 abbrev μ-loop : tie.MeasureT-loop
 μ-loop cells from n half other all₀ p₀ all p = half - p
 
-add-half : tie.Need-add-half Inv-loop μ-loop
-add-half c = omega arith
-
-add-other : tie.Need-add-other Inv-loop μ-loop
-add-other c = omega arith
-
 loop-holds : tie.Need-loop-holds Inv-loop μ-loop
 loop-holds c = (omega arith, omega arith, omega arith, search pairs-none)
-
-add-all : tie.Need-add-all Inv-loop μ-loop
-add-all c = omega arith
-
-mul-all : tie.Need-mul-all Inv-loop μ-loop
-mul-all c = omega arith
-
-shared-slice-read-all : tie.Need-shared-slice-read-all Inv-loop μ-loop
-shared-slice-read-all c = omega arith
-
-add-all-2 : tie.Need-add-all-2 Inv-loop μ-loop
-add-all-2 c = omega arith
-
-mul-all-2 : tie.Need-mul-all-2 Inv-loop μ-loop
-mul-all-2 c = omega arith
-
-shared-slice-read-all-2 : tie.Need-shared-slice-read-all-2 Inv-loop μ-loop
-shared-slice-read-all-2 c = omega arith
-
-add-p : tie.Need-add-p Inv-loop μ-loop
-add-p c = omega arith
 
 loop-less : tie.Need-loop-less Inv-loop μ-loop
 loop-less c = omega arith
@@ -57,19 +30,5 @@ returns c = search all-gathered
 pub gathered-spec : {M : Type 1} → statement M
 gathered-spec =
     tie.close
-    (tie.spec
-    Inv-loop
-    μ-loop
-    add-half
-    add-other
-    loop-holds
-    add-all
-    mul-all
-    shared-slice-read-all
-    add-all-2
-    mul-all-2
-    shared-slice-read-all-2
-    add-p
-    loop-less
-    loop-again
-    returns)
+    (tie.spec Inv-loop μ-loop (omega arith) (omega arith) loop-holds (omega arith) (omega arith) (omega arith) (omega arith)
+    (omega arith) (omega arith) (omega arith) loop-less loop-again returns)

@@ -5,19 +5,11 @@ use Rattle.log_damage.proofs.CloseLaws.{close-records}
 use Rattle.log_damage.proofs.records.later_records_fit.Statement.{statement}
 use Rattle.log_damage.proofs.records.later_records_fit.Tie as tie
 
-later-records-close-requires : tie.Need-later-records-close-requires
-later-records-close-requires c κs = search needs
-
 returns : tie.Need-returns
 returns c = search (close-records, c .before .later-records-close .ensures)
-
-later-records-fit-each-requires : tie.Need-later-records-fit-each-requires
-later-records-fit-each-requires c κs = search needs
 
 returns-2 : tie.Need-returns-2
 returns-2 c = search needs
 
 pub later-records-fit-spec : {M : Type 1} → statement M
-later-records-fit-spec =
-    tie.close
-    (tie.spec later-records-close-requires returns later-records-fit-each-requires returns-2)
+later-records-fit-spec = tie.close (tie.spec (search needs) returns (search needs) returns-2)

@@ -21,9 +21,6 @@ loop-holds c = (omega arith, refl)
 later-record-fits-requires : tie.Need-later-record-fits-requires Inv-loop μ-loop
 later-record-fits-requires c κs = (omega arith, omega arith, omega arith)
 
-add-k : tie.Need-add-k Inv-loop μ-loop
-add-k c = omega arith
-
 loop-less : tie.Need-loop-less Inv-loop μ-loop
 loop-less c = omega arith
 
@@ -36,12 +33,4 @@ returns c = search fold-end
 pub later-records-fit-each-spec : {M : Type 1} → statement M
 later-records-fit-each-spec =
     tie.close
-    (tie.spec
-    Inv-loop
-    μ-loop
-    loop-holds
-    later-record-fits-requires
-    add-k
-    loop-less
-    loop-again
-    returns)
+    (tie.spec Inv-loop μ-loop loop-holds later-record-fits-requires (omega arith) loop-less loop-again returns)

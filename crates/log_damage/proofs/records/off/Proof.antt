@@ -6,15 +6,6 @@ use Rattle.log_damage.proofs.CloseLaws.{gap-above, gap-below}
 use Rattle.log_damage.proofs.records.off.Statement.{statement}
 use Rattle.log_damage.proofs.records.off.Tie as tie
 
-sub-result : tie.Need-sub-result
-sub-result c = search needs
-
-add-result : tie.Need-add-result
-add-result c = search needs
-
-add-result-2 : tie.Need-add-result-2
-add-result-2 c = search needs
-
 returns : tie.Need-returns
 returns c = search gap-above
 
@@ -22,4 +13,4 @@ returns-2 : tie.Need-returns-2
 returns-2 c = gap-below _ _ (omega arith) (omega arith)
 
 pub off-spec : {M : Type 1} → statement M
-off-spec = tie.close (tie.spec sub-result add-result add-result-2 returns returns-2)
+off-spec = tie.close (tie.spec (search needs) (search needs) (search needs) returns returns-2)

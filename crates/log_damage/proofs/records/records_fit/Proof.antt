@@ -7,26 +7,11 @@ use Rattle.log_damage.proofs.RecordLaws.{all-records}
 use Rattle.log_damage.proofs.records.records_fit.Statement.{statement}
 use Rattle.log_damage.proofs.records.records_fit.Tie as tie
 
-clock-of-requires : tie.Need-clock-of-requires
-clock-of-requires c κs = search needs
-
-wide-requires : tie.Need-wide-requires
-wide-requires c κs = search needs
-
 end-at-requires : tie.Need-end-at-requires
 end-at-requires c κs = (search low-stamp, omega arith)
 
-changes-used-requires : tie.Need-changes-used-requires
-changes-used-requires c κs = search needs
-
-wide-requires-2 : tie.Need-wide-requires-2
-wide-requires-2 c κs = search needs
-
 rows-at-requires : tie.Need-rows-at-requires
 rows-at-requires c κs = (search low-stamp, omega arith)
-
-first-record-fits-requires : tie.Need-first-record-fits-requires
-first-record-fits-requires c κs = search needs
 
 later-records-fit-requires : tie.Need-later-records-fit-requires
 later-records-fit-requires c κs = (search low-records, omega arith)
@@ -37,13 +22,5 @@ returns c = search all-records
 pub records-fit-spec : {M : Type 1} → statement M
 records-fit-spec =
     tie.close
-    (tie.spec
-    clock-of-requires
-    wide-requires
-    end-at-requires
-    changes-used-requires
-    wide-requires-2
-    rows-at-requires
-    first-record-fits-requires
-    later-records-fit-requires
-    returns)
+    (tie.spec (search needs) (search needs) end-at-requires (search needs) (search needs) rows-at-requires (search needs)
+    later-records-fit-requires returns)
