@@ -16,17 +16,26 @@ use Rattle.bits.specs.All.{allBelow, all-at, all-of}
 use Rattle.rules.specs.Limits.{maxValues, maxRows, maxSlots, maxRecords, maxChanges}
 use Rattle.tables.specs.Cells.{Tables, valuesIn, firstIn, stampIn, rowsIn, slotsIn, changesIn, recordStamp, recordKind, recordRows, recordEnd, rowsAt, endAt, changeRow, changeSet}
 use Rattle.tables.specs.Room.{roomFor, roomy, Roomy}
-pub use Rattle.tables.specs.Room.{Room}
 use Rattle.tables.specs.Damage.{clockFits, recordFits, recordsFit, allIn, changeFits, recordChangesFit, changesFit, slotsFit, headsFit, vectorsFit, sessionsFit, sound}
 use Rattle.tables.proofs.Tests.{told, made, both, and-both, either, or-left, or-right}
 
 -- ---- room
 
-module _ (clock slots words heads log changes : List ℕ) (places : ℕ) where
-  -- what `numbers_fit` requires
-  pub room-lengths : roomFor clock slots words heads log changes places ≡ true → Roomy clock slots words heads log changes
-  unfolding roomFor
-  room-lengths e = search (told, arith) depth 12
+-- what `numbers_fit` requires
+pub room-lengths : (clock slots words heads log changes : List ℕ) (places : ℕ) → roomFor clock slots words heads log changes places ≡ true
+    → Roomy clock slots words heads log changes
+unfolding roomFor
+room-lengths clock slots words heads log changes places e = search told depth 12
+
+-- no table is short
+pub record Room (t : Tables) : Type 0 where
+  pub clock-room : 6 ≤ length (t .clock)
+  pub slots-room : 288 ≤ length (t .slots)
+  pub words-room : 3072 ≤ length (t .words)
+  pub heads-room : 32 ≤ length (t .heads)
+  pub log-room : 2048 ≤ length (t .log)
+  pub changes-room : 4096 ≤ length (t .changes)
+  pub sessions-room : 16 ≤ length (t .sessions)
 
 module _ (t : Tables) where
   pub room-facts : roomy t ≡ true → Room t

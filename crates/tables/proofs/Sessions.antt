@@ -1,6 +1,6 @@
 -- What sessions that are not damaged have, as facts on numbers: free and all 0, or open.
 -- Assumes nothing.
-use mathlib.Core.Path.{_≡_, refl, sym, ap, _∙_}
+use mathlib.Core.Path.{_≡_, refl, ap}
 use mathlib.Core.Bool.{Bool, true, not, _&&_, _||_}
 use mathlib.Core.List.{List}
 use mathlib.Core.Logic.{_⊎_, inl, inr, ⊎-elim}
@@ -8,8 +8,7 @@ use Prim.Native.Nat.{ℕ, _≤_, _<_}
 use native.Mathlib.Omega.{arith}
 use borrow.Author.Tests.{leb-true, le-leb, eqb-true, eqb-false, eq-eqb, ne-eqb, ltb-true, lt-ltb, not-true}
 use lib.Dec.{eqb, ltb}
-use lib.ListN.{length, getD, replicate, length-replicate, getD-replicate}
-use lib.Seq.{ext-getD}
+use lib.ListN.{length, getD, getD-replicate}
 use Rattle.bits.specs.Cases.{eq-cases}
 use Rattle.bits.specs.Words.{Words}
 use Rattle.bits.specs.All.{allBelow, all-at, all-of}
@@ -51,22 +50,6 @@ zero-facts x e = search (told, row-zero, target-zero) depth 12
 pub zero-made : (x : Session) → ZeroFacts x → allZero x ≡ true
 unfolding allZero entryZero maxEntries
 zero-made x f = search (made, all-of, f .at-zero, f .to-zero) depth 12
-
--- its cells are those of `freed`
-zeros : (l : List ℕ) (n : ℕ) → length l ≡ n → ((i : ℕ) → i < n → _≡_ {A = ℕ} (getD l i 0) 0) → l ≡ replicate n 0
-zeros l n e h =
-    ext-getD 0 l (replicate n 0) (e ∙ sym (length-replicate n 0))
-    (λ i m. h i (omega arith) ∙ sym (getD-replicate n i 0 0 (omega arith)))
-
-all-zeros : (l s r n : ℕ) (a t : List ℕ) → l ≡ 0 → s ≡ 0 → r ≡ 0 → n ≡ 0 → a ≡ replicate 32 0 → t ≡ replicate 32 0
-    → record { live = l; start = record { 0 = s }; rows = record { 0 = r }; count = n; at = a; to = t } ≡ freed
-unfolding freed
-all-zeros l s r n a t p q u v w z = rw (p, q, u, v, w, z)
-
-pub zero-freed : (x : Session) → length (x .at) ≡ 32 → length (x .to) ≡ 32 → ZeroFacts x → x ≡ freed
-zero-freed x p q f =
-    all-zeros (x .live) (x .start .0) (x .rows .0) (x .count) (x .at) (x .to) (f .live-zero) (f .start-zero) (f .rows-zero) (f .count-zero)
-    (zeros (x .at) 32 p (f .at-zero)) (zeros (x .to) 32 q (f .to-zero))
 
 pub freed-zero : ZeroFacts freed
 unfolding freed
@@ -112,25 +95,29 @@ unfolding entryFits
 entry-made values rows at to (inl p) = search (made, or-left, target-made) depth 8
 entry-made values rows at to (inr p) = search (made, or-right) depth 8
 
--- the test that no entry before i has its row
-abbrev other : Session → ℕ → ℕ → Bool
-other x i j = not (eqb (getD (x .at) j 0) (getD (x .at) i 0))
+module _ (x : Session) (i : ℕ) where
+  -- the test that entry j does not have the row of entry i
+  abbrev other : ℕ → Bool
+  other j = not (eqb (getD (x .at) j 0) (getD (x .at) i 0))
 
-once-facts : (x : Session) (i j : ℕ) → onceFits x i ≡ true → j < i → (getD (x .at) i 0 ≡ 65535 → ⊥) → getD (x .at) j 0 ≡ getD (x .at) i 0 → ⊥
-unfolding onceFits
-once-facts x i j e l n = go (either _ _ e)
-  where
-    go : (eqb (getD (x .at) i 0) 65535 ≡ true) ⊎ (allBelow (other x i) i ≡ true) → getD (x .at) j 0 ≡ getD (x .at) i 0 → ⊥
-    go (inl p) = absurd (n (eqb-true _ _ p))
-    go (inr p) = eqb-false _ _ (not-true _ (all-at (other x i) i p j l))
+  -- no entry before i has its row
+  abbrev OnceAt : Type 0
+  OnceAt = (j : ℕ) → j < i → (getD (x .at) i 0 ≡ 65535 → ⊥) → getD (x .at) j 0 ≡ getD (x .at) i 0 → ⊥
 
-once-made : (x : Session) (i : ℕ) → ((j : ℕ) → j < i → (getD (x .at) i 0 ≡ 65535 → ⊥) → getD (x .at) j 0 ≡ getD (x .at) i 0 → ⊥) → onceFits x i ≡ true
-unfolding onceFits
-once-made x i h =
-    ⊎-elim (λ (p : getD (x .at) i 0 ≡ 65535). or-left (eqb (getD (x .at) i 0) 65535) (allBelow (other x i) i) (eq-eqb (getD (x .at) i 0) 65535 p))
-    (λ (n : getD (x .at) i 0 ≡ 65535 → ⊥).
-    or-right (eqb (getD (x .at) i 0) 65535) (allBelow (other x i) i)
-    (all-of (other x i) i (λ j l. ap not (ne-eqb _ _ (h j l n))))) (eq-cases (getD (x .at) i 0) 65535)
+  once-facts : onceFits x i ≡ true → OnceAt
+  unfolding onceFits
+  once-facts e j l n =
+      ⊎-elim (λ (p : eqb (getD (x .at) i 0) 65535 ≡ true). absurd (n (eqb-true _ _ p)))
+      (λ (p : allBelow other i ≡ true). eqb-false _ _ (not-true _ (all-at other i p j l)))
+      (either (eqb (getD (x .at) i 0) 65535) (allBelow other i) e)
+
+  once-made : OnceAt → onceFits x i ≡ true
+  unfolding onceFits
+  once-made h =
+      ⊎-elim (λ (p : getD (x .at) i 0 ≡ 65535). or-left (eqb (getD (x .at) i 0) 65535) (allBelow other i) (eq-eqb _ _ p))
+      (λ (n : getD (x .at) i 0 ≡ 65535 → ⊥).
+      or-right (eqb (getD (x .at) i 0) 65535) (allBelow other i) (all-of other i (λ j l. ap not (ne-eqb _ _ (h j l n)))))
+      (eq-cases (getD (x .at) i 0) 65535)
 
 module _ (values : ℕ) (x : Session) (i : ℕ) (l : i < x .count) where
   abbrev entry : ℕ → Bool
@@ -139,37 +126,33 @@ module _ (values : ℕ) (x : Session) (i : ℕ) (l : i < x .count) where
   case-at : allBelow entry (x .count) ≡ true → EntryCases values (x .rows .0) (getD (x .at) i 0) (getD (x .to) i 0)
   case-at e = entry-facts values (x .rows .0) (getD (x .at) i 0) (getD (x .to) i 0) (all-at entry (x .count) e i l)
 
-  once-at : allBelow (onceFits x) (x .count) ≡ true → (j : ℕ) → j < i → (getD (x .at) i 0 ≡ 65535 → ⊥) → getD (x .at) j 0 ≡ getD (x .at) i 0 → ⊥
-  once-at e j = once-facts x i j (all-at (onceFits x) (x .count) e i l)
+  once-at : allBelow (onceFits x) (x .count) ≡ true → OnceAt x i
+  once-at e = once-facts x i (all-at (onceFits x) (x .count) e i l)
 
-pub open-facts : (values first stamp : ℕ) (log : List ℕ) (x : Session) → openFits values first stamp log x ≡ true → OpenFacts values first stamp log x
-unfolding openFits maxEntries
-open-facts values first stamp log x e = search (told, case-at, once-at) depth 12
+module _ (values first stamp : ℕ) (log : List ℕ) (x : Session) where
+  pub open-facts : openFits values first stamp log x ≡ true → OpenFacts values first stamp log x
+  unfolding openFits maxEntries
+  open-facts e = search (told, case-at, once-at) depth 12
 
-pub open-made : (values first stamp : ℕ) (log : List ℕ) (x : Session) → OpenFacts values first stamp log x → openFits values first stamp log x ≡ true
-unfolding openFits maxEntries
-open-made values first stamp log x f = search (made, all-of, entry-made, once-made, f .entry-cases, f .listed-once) depth 12
+  pub open-made : OpenFacts values first stamp log x → openFits values first stamp log x ≡ true
+  unfolding openFits maxEntries
+  open-made f = search (made, all-of, entry-made, once-made, f .entry-cases, f .listed-once) depth 12
 
--- ---- any session
+  -- any session
+  pub session-facts : sessionFits values first stamp log x ≡ true → ZeroFacts x ⊎ OpenFacts values first stamp log x
+  unfolding sessionFits
+  session-facts e =
+      ⊎-elim (λ (p : allZero x ≡ true). inl (zero-facts x p)) (λ (p : openFits values first stamp log x ≡ true). inr (open-facts p))
+      (either (allZero x) (openFits values first stamp log x) e)
 
-pub session-facts : (values first stamp : ℕ) (log : List ℕ) (x : Session) → sessionFits values first stamp log x ≡ true → ZeroFacts x ⊎ OpenFacts values first stamp log x
-unfolding sessionFits
-session-facts values first stamp log x e =
-    ⊎-elim (λ (p : allZero x ≡ true). inl (zero-facts x p)) (λ (p : openFits values first stamp log x ≡ true). inr (open-facts values first stamp log x p))
-    (either (allZero x) (openFits values first stamp log x) e)
+  session-open : sessionFits values first stamp log x ≡ true → x .live ≡ 1 → OpenFacts values first stamp log x
+  session-open e l =
+      ⊎-elim (λ (z : ZeroFacts x). absurd (omega (arith, z .live-zero))) (λ (f : OpenFacts values first stamp log x). f) (session-facts e)
 
-pub session-open : (values first stamp : ℕ) (log : List ℕ) (x : Session) → sessionFits values first stamp log x ≡ true → x .live ≡ 1 → OpenFacts values first stamp log x
-session-open values first stamp log x e l =
-    ⊎-elim (λ (z : ZeroFacts x). absurd (omega (arith, z .live-zero))) (λ (f : OpenFacts values first stamp log x). f) (session-facts values first stamp log x e)
-
-pub session-free : (values first stamp : ℕ) (log : List ℕ) (x : Session) → sessionFits values first stamp log x ≡ true → (x .live ≡ 1 → ⊥) → ZeroFacts x
-session-free values first stamp log x e n =
-    ⊎-elim (λ (z : ZeroFacts x). z) (λ (f : OpenFacts values first stamp log x). absurd (n (f .live-one))) (session-facts values first stamp log x e)
-
-pub session-made : (values first stamp : ℕ) (log : List ℕ) (x : Session) → ZeroFacts x ⊎ OpenFacts values first stamp log x → sessionFits values first stamp log x ≡ true
-unfolding sessionFits
-session-made values first stamp log x (inl z) = or-left (allZero x) (openFits values first stamp log x) (zero-made x z)
-session-made values first stamp log x (inr f) = or-right (allZero x) (openFits values first stamp log x) (open-made values first stamp log x f)
+  pub session-made : ZeroFacts x ⊎ OpenFacts values first stamp log x → sessionFits values first stamp log x ≡ true
+  unfolding sessionFits
+  session-made (inl z) = or-left (allZero x) (openFits values first stamp log x) (zero-made x z)
+  session-made (inr f) = or-right (allZero x) (openFits values first stamp log x) (open-made f)
 
 -- ---- the session table
 
@@ -177,11 +160,11 @@ module _ (c log : List ℕ) (sessions : List Session) where
   abbrev Fits : ℕ → Bool
   Fits i = sessionFits (valuesIn c) (firstIn c) (stampIn c) log (sessionAt sessions i)
 
-  pub each-session : sessionsFit c log sessions ≡ true → (i : ℕ) → i < 16 → sessionFits (valuesIn c) (firstIn c) (stampIn c) log (sessionAt sessions i) ≡ true
+  pub each-session : sessionsFit c log sessions ≡ true → (i : ℕ) → i < 16 → Fits i ≡ true
   unfolding sessionsFit maxSessions
   each-session e i l = all-at Fits 16 e i l
 
-  pub sessions-made : ((i : ℕ) → i < 16 → sessionFits (valuesIn c) (firstIn c) (stampIn c) log (sessionAt sessions i) ≡ true) → sessionsFit c log sessions ≡ true
+  pub sessions-made : ((i : ℕ) → i < 16 → Fits i ≡ true) → sessionsFit c log sessions ≡ true
   unfolding sessionsFit maxSessions
   sessions-made h = all-of Fits 16 h
 
@@ -205,11 +188,3 @@ pub record Typed (t : Tables) : Type 0 where
   pub words-fit : Words (t .words)
   pub at-cells : (i : ℕ) → length (sessionAt (t .sessions) i .at) ≡ 32
   pub to-cells : (i : ℕ) → length (sessionAt (t .sessions) i .to) ≡ 32
-
--- a session that is not open is all 0
-pub free-at : (t : Tables) → Typed t → sessionsFit (t .clock) (t .log) (t .sessions) ≡ true → (i : ℕ) → i < 16 → (sessionAt (t .sessions) i .live ≡ 1 → ⊥)
-    → sessionAt (t .sessions) i ≡ freed
-free-at t y e i l n =
-    zero-freed (sessionAt (t .sessions) i) (y .at-cells i) (y .to-cells i)
-    (session-free (valuesIn (t .clock)) (firstIn (t .clock)) (stampIn (t .clock)) (t .log) (sessionAt (t .sessions) i)
-    (each-session (t .clock) (t .log) (t .sessions) e i l) n)

@@ -94,15 +94,11 @@ module _ (c slots : List ℕ) where
 
   pub each-first : slotsFit c slots ≡ true → (i : ℕ) → i < valuesIn c → i < slotsIn c → FirstSlot slots i
   unfolding slotFits
-  each-first e i h l =
-      first-facts slots i
-      (ap (λ (t : Bool). cond t (firstSlotFits slots i) (laterSlotFits (valuesIn c) (stampIn c) slots i)) (sym (lt-ltb i (valuesIn c) h)) ∙ slot-at e i l)
+  each-first e i h l = first-facts slots i (rw (lt-ltb i (valuesIn c) h) at (slot-at e i l))
 
   pub each-later : slotsFit c slots ≡ true → (i : ℕ) → valuesIn c ≤ i → i < slotsIn c → LaterSlot (valuesIn c) (stampIn c) slots i
   unfolding slotFits
-  each-later e i h l =
-      later-facts (valuesIn c) (stampIn c) slots i
-      (ap (λ (t : Bool). cond t (firstSlotFits slots i) (laterSlotFits (valuesIn c) (stampIn c) slots i)) (sym (le-ltb i (valuesIn c) h)) ∙ slot-at e i l)
+  each-later e i h l = later-facts (valuesIn c) (stampIn c) slots i (rw (le-ltb i (valuesIn c) h) at (slot-at e i l))
 
   pub each-slot : slotsFit c slots ≡ true → (i : ℕ) → i < slotsIn c → SlotFacts (valuesIn c) (stampIn c) slots i
   each-slot e i l =
@@ -114,13 +110,8 @@ module _ (c slots : List ℕ) where
   unfolding slotsFit slotFits
   slots-made f g =
       all-of (slotFits (valuesIn c) (stampIn c) slots) (slotsIn c)
-      (λ i l. ⊎-elim
-      (λ (h : i < valuesIn c).
-      ap (λ (t : Bool). cond t (firstSlotFits slots i) (laterSlotFits (valuesIn c) (stampIn c) slots i)) (lt-ltb i (valuesIn c) h)
-      ∙ first-made slots i (f i h l))
-      (λ (h : valuesIn c ≤ i).
-      ap (λ (t : Bool). cond t (firstSlotFits slots i) (laterSlotFits (valuesIn c) (stampIn c) slots i)) (le-ltb i (valuesIn c) h)
-      ∙ later-made (valuesIn c) (stampIn c) slots i (g i h l))
+      (λ i l. ⊎-elim (λ (h : i < valuesIn c). rw (lt-ltb i (valuesIn c) h) (first-made slots i (f i h l)))
+      (λ (h : valuesIn c ≤ i). rw (le-ltb i (valuesIn c) h) (later-made (valuesIn c) (stampIn c) slots i (g i h l)))
       (lt-cases i (valuesIn c)))
 
 -- the links are below the slots in use, along them the value stays and the stamp falls

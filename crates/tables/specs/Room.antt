@@ -17,20 +17,11 @@ roomFor clock slots words heads log changes places =
 unfoldable pub roomy : Tables → Bool
 roomy t = roomFor (t .clock) (t .slots) (t .words) (t .heads) (t .log) (t .changes) (length (t .sessions))
 
--- the same as facts on lengths
-pub record RoomFor (clock slots words heads log changes : List ℕ) (places : ℕ) : Type 0 where
+-- the number tables have room, as facts on their lengths
+pub record Roomy (clock slots words heads log changes : List ℕ) : Type 0 where
   pub clock-room : 6 ≤ length clock
   pub slots-room : 288 ≤ length slots
   pub words-room : 3072 ≤ length words
   pub heads-room : 32 ≤ length heads
   pub log-room : 2048 ≤ length log
   pub changes-room : 4096 ≤ length changes
-  pub sessions-room : 16 ≤ places
-
--- no table is short
-abbrev pub Room : Tables → Type 0
-Room t = RoomFor (t .clock) (t .slots) (t .words) (t .heads) (t .log) (t .changes) (length (t .sessions))
-
--- no number table is short, with any session table of 16 places
-abbrev pub Roomy : List ℕ → List ℕ → List ℕ → List ℕ → List ℕ → List ℕ → Type 0
-Roomy clock slots words heads log changes = RoomFor clock slots words heads log changes 16
