@@ -6,7 +6,7 @@ use mathlib.Core.List.{List}
 use mathlib.Core.Logic.{_⊎_, ⊎-elim}
 use Prim.Native.Nat.{ℕ, _≤_, _<_}
 use native.Mathlib.Omega.{arith}
-use borrow.Author.Tests.{le-leb, leb-true, not-false}
+use borrow.Author.Tests.{not-false}
 use lib.Dec.{eqb}
 use lib.ListN.{getD}
 use Rattle.bits.specs.All.{allBelow, all-at, all-and}
@@ -15,10 +15,9 @@ use Rattle.bits.specs.Cases.{same-truth}
 use Rattle.rules.specs.Limits.{maxEntries}
 use Rattle.tables.specs.declared.session.Session.{Session}
 use Rattle.tables.specs.Damage.{entryZero, allZero}
-use Rattle.tables.proofs.Tests.{both, and-both}
 use Rattle.tables.proofs.Sessions.{entry-facts}
 use Rattle.session_damage.specs.Parts.{zeroAt, listed, onceIn, RowsLow, entriesFit}
-use Rattle.tables.proofs.Tests.{not-so, found-false}
+use Rattle.tables.proofs.Tests.{told, made, not-so, found-false}
 use Rattle.session_damage.proofs.OnceLaws.{once-few}
 
 -- a list whose rows and targets, each gathered in one number, are 0
@@ -48,27 +47,11 @@ pub record EntriesFacts (at to : List ℕ) (count rows values : ℕ) : Type 0 wh
 module _ (at to : List ℕ) (count rows values : ℕ) where
   pub entries-facts : entriesFit at to count rows values ≡ true → EntriesFacts at to count rows values
   unfolding entriesFit
-  entries-facts e =
-      let p = both _ _ e in
-      let q = both _ _ (p .0) in
-      let r = both _ _ (q .0) in
-      let s = both _ _ (r .0) in
-      record {
-        count-low = leb-true _ _ (s .0);
-        rows-low = leb-true _ _ (s .1);
-        values-low = leb-true _ _ (r .1);
-        all-listed = q .1;
-        all-once = p .1;
-      }
+  entries-facts e = search told depth 8
 
   pub entries-made : EntriesFacts at to count rows values → entriesFit at to count rows values ≡ true
   unfolding entriesFit
-  entries-made f =
-      and-both _ _
-      (and-both _ _
-      (and-both _ _ (and-both _ _ (le-leb _ _ (f .count-low)) (le-leb _ _ (f .rows-low))) (le-leb _ _ (f .values-low)))
-      (f .all-listed))
-      (f .all-once)
+  entries-made f = search made depth 8
 
   -- too many entries, too many rows, too many values
   pub long-list : 32 < count → false ≡ entriesFit at to count rows values
@@ -98,22 +81,15 @@ module _ (at to : List ℕ) (count rows values : ℕ) where
     module _ (h : count ≤ 32) (l : rows ≤ 2048) (m : values ≤ 32) (o : not b ≡ false) where
       -- a list of at most one entry
       pub short-list : n < 2 → true ≡ entriesFit at to count rows values
-      short-list k = sym (entries-made (record {
-        count-low = h;
-        rows-low = l;
-        values-low = m;
-        all-listed = sym listed-is ∙ not-false b o;
-        all-once = once-few at count (omega arith);
-      }))
+      short-list k =
+          let p = sym listed-is ∙ not-false b o in
+          let q = once-few at count (omega arith) in
+          sym (entries-made (search))
 
       pub once-decides : (r : Bool) → r ≡ allBelow (onceIn at) n → r ≡ entriesFit at to count rows values
       once-decides r k =
+          let p = sym listed-is ∙ not-false b o in
           same-truth r (entriesFit at to count rows values)
-          (λ z. entries-made (record {
-            count-low = h;
-            rows-low = l;
-            values-low = m;
-            all-listed = sym listed-is ∙ not-false b o;
-            all-once = ap (allBelow (onceIn at)) (sym e) ∙ sym k ∙ z;
-          }))
+          (λ z. let q = ap (allBelow (onceIn at)) (sym e) ∙ sym k ∙ z in
+          entries-made (search))
           (λ z. k ∙ ap (allBelow (onceIn at)) e ∙ entries-facts z .all-once)

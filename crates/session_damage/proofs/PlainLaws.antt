@@ -85,10 +85,6 @@ module _ (at to : List ℕ) (rows values : ℕ) where
       → (b ≡ true → (allBelow (listed values rows at to) n ≡ true) × (allBelow
       (onceIn at) n ≡ true)) → b ≡ true → true ≡ entriesFit at to count rows values
   plain-list count n b h l m e f t =
-      sym (entries-made at to count rows values (record {
-        count-low = h;
-        rows-low = l;
-        values-low = m;
-        all-listed = ap (allBelow (listed values rows at to)) (sym e) ∙ f t .0;
-        all-once = ap (allBelow (onceIn at)) (sym e) ∙ f t .1;
-      }))
+      let p = ap (allBelow (listed values rows at to)) (sym e) ∙ f t .0 in
+      let q = ap (allBelow (onceIn at)) (sym e) ∙ f t .1 in
+      sym (entries-made at to count rows values (search))

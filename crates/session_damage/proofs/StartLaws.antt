@@ -1,18 +1,16 @@
 -- A session's start, looked at a step at a time.
 -- Assumes nothing.
-use mathlib.Core.Path.{_≡_, sym, ap, ap₂, _∙_}
+use mathlib.Core.Path.{_≡_, sym, ap, _∙_}
 use mathlib.Core.Bool.{Bool, true, false, _&&_}
 use mathlib.Core.List.{List}
 use Prim.Native.Nat.{ℕ, _≤_, _<_}
 use native.Mathlib.Omega.{arith}
-use borrow.Author.Tests.{le-leb, leb-true}
 use lib.Dec.{leb, eqb}
 use lib.ListN.{length}
 use Rattle.tables.specs.declared.clock.Clock.{Clock}
 use Rattle.tables.specs.Cells.{rowsAt}
-use Rattle.tables.proofs.Tests.{both}
 use Rattle.session_damage.specs.Parts.{startFits}
-use Rattle.tables.proofs.Tests.{not-so}
+use Rattle.tables.proofs.Tests.{told, made, not-so}
 
 -- what a start that fits has
 pub record StartFacts (start rows : ℕ) (log : List ℕ) (c : Clock) : Type 0 where
@@ -24,11 +22,7 @@ pub record StartFacts (start rows : ℕ) (log : List ℕ) (c : Clock) : Type 0 w
 module _ (start rows : ℕ) (log : List ℕ) (c : Clock) where
   pub start-facts : startFits start rows log c ≡ true → StartFacts start rows log c
   unfolding startFits
-  start-facts e =
-      let p = both _ _ e in
-      let q = both _ _ (p .0) in
-      let r = both _ _ (q .0) in
-      record { start-old = leb-true _ _ (r .0); start-low = leb-true _ _ (r .1); log-room = leb-true _ _ (q .1); rows-then = p .1 }
+  start-facts e = search told depth 8
 
   -- after the stamp, past the log, and a log that is too short
   pub late-start : c .stamp .0 < start → false ≡ startFits start rows log c
@@ -46,4 +40,4 @@ module _ (start rows : ℕ) (log : List ℕ) (c : Clock) where
   known-start r h l m e = ap (eqb rows) e ∙ ap (λ (t : Bool). t && eqb rows (rowsAt (c .first .0) log start)) (sym three)
     where
       three : leb start (c .stamp .0) && leb start 512 && leb 2048 (length log) ≡ true
-      three = ap₂ (λ (x y : Bool). x && y) (ap₂ (λ (x y : Bool). x && y) (le-leb start (c .stamp .0) h) (le-leb start 512 l)) (le-leb 2048 (length log) m)
+      three = search made

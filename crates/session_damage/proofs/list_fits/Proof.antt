@@ -18,21 +18,12 @@ Inv-loop at to n below c ok₀ i₀ ok i = allBelow (listed c below at to) n ≡
 abbrev μ-loop : tie.MeasureT-loop
 μ-loop at to n below c ok₀ i₀ ok i = n - i
 
-loop-holds : tie.Need-loop-holds Inv-loop μ-loop
-loop-holds c = search below-in
-
-loop-less : tie.Need-loop-less Inv-loop μ-loop
-loop-less c = omega arith
-
 loop-again : tie.Need-loop-again Inv-loop μ-loop
 unfolding listed
 loop-again c = search fold-again
 
-returns : tie.Need-returns Inv-loop μ-loop
-returns c = search fold-end
-
 pub list-fits-spec : {M : Type 1} → statement M
 list-fits-spec =
     tie.close
-    (tie.spec Inv-loop μ-loop (omega arith) (omega arith) loop-holds (omega arith) (omega arith) (omega arith) (search needs)
-    (omega arith) loop-less loop-again returns)
+    (tie.spec Inv-loop μ-loop (omega arith) (omega arith) (λ c. search below-in) (omega arith) (omega arith) (omega arith)
+    (search needs) (omega arith) (omega arith) loop-again (λ c. search fold-end))

@@ -13,20 +13,11 @@ Inv-loop at to n rows values seen₀ ok₀ i₀ seen ok i = (i ≤ n) × Plain a
 abbrev μ-loop : tie.MeasureT-loop
 μ-loop at to n rows values seen₀ ok₀ i₀ seen ok i = n - i
 
-loop-holds : tie.Need-loop-holds Inv-loop μ-loop
-loop-holds c = (omega arith, search plain-none)
-
-loop-less : tie.Need-loop-less Inv-loop μ-loop
-loop-less c = omega arith
-
-loop-again : tie.Need-loop-again Inv-loop μ-loop
-loop-again c = (omega arith, search plain-more)
-
 returns : tie.Need-returns Inv-loop μ-loop
 returns c = plain-end _ _ _ _ _ _ _ _ (c .before .loop .inv .1) (omega arith) (omega arith)
 
 pub list-plain-spec : {M : Type 1} → statement M
 list-plain-spec =
     tie.close
-    (tie.spec Inv-loop μ-loop loop-holds (omega arith) (omega arith) (search needs) (omega arith) (search needs) (search needs)
-    (search needs) (omega arith) loop-less loop-again returns)
+    (tie.spec Inv-loop μ-loop (λ c. (omega arith, search plain-none)) (omega arith) (omega arith) (search needs) (omega arith)
+    (search needs) (search needs) (search needs) (omega arith) (omega arith) (λ c. (omega arith, search plain-more)) returns)

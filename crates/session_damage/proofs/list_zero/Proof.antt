@@ -15,19 +15,8 @@ Inv-loop at to rows₀ targets₀ i₀ rows targets i = (i ≤ 32) × (rows ≡ 
 abbrev μ-loop : tie.MeasureT-loop
 μ-loop at to rows₀ targets₀ i₀ rows targets i = 32 - i
 
-loop-holds : tie.Need-loop-holds Inv-loop μ-loop
-loop-holds c = (omega arith, search or-zero, search or-zero)
-
-loop-less : tie.Need-loop-less Inv-loop μ-loop
-loop-less c = omega arith
-
-loop-again : tie.Need-loop-again Inv-loop μ-loop
-loop-again c = (omega arith, search or-more, search or-more)
-
-returns : tie.Need-returns Inv-loop μ-loop
-returns c = search zero-gathered
-
 pub list-zero-spec : {M : Type 1} → statement M
 list-zero-spec =
     tie.close
-    (tie.spec Inv-loop μ-loop loop-holds (omega arith) (omega arith) (omega arith) (omega arith) loop-less loop-again returns)
+    (tie.spec Inv-loop μ-loop (λ c. (omega arith, search or-zero, search or-zero)) (omega arith) (omega arith) (omega arith)
+    (omega arith) (omega arith) (λ c. (omega arith, search or-more, search or-more)) (λ c. search zero-gathered))

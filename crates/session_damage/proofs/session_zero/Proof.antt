@@ -5,8 +5,5 @@ use Rattle.session_damage.proofs.EntryLaws.{zero-session}
 use Rattle.session_damage.proofs.session_zero.Statement.{statement}
 use Rattle.session_damage.proofs.session_zero.Tie as tie
 
-returns : tie.Need-returns
-returns c = search zero-session
-
 pub session-zero-spec : {M : Type 1} → statement M
-session-zero-spec = tie.close (tie.spec (search needs) returns)
+session-zero-spec = tie.close (tie.spec (search needs) (λ c. search zero-session))

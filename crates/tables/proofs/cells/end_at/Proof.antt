@@ -5,11 +5,7 @@ use borrow.Author.Needs.{needs}
 use Rattle.tables.proofs.cells.end_at.Statement.{statement}
 use Rattle.tables.proofs.cells.end_at.Tie as tie
 
-returns : tie.Need-returns
-returns c = search needs
-
-returns-2 : tie.Need-returns-2
-returns-2 c = search end-later
-
 pub end-at-spec : {M : Type 1} → statement M
-end-at-spec = tie.close (tie.spec (search needs) returns (search needs) (search needs) (search needs) (search needs) returns-2)
+end-at-spec =
+    tie.close
+    (tie.spec (search needs) (λ c. search needs) (search needs) (search needs) (search needs) (search needs) (λ c. search end-later))

@@ -5,8 +5,5 @@ use borrow.Author.Needs.{needs}
 use Rattle.tables.proofs.cells.head_of.Statement.{statement}
 use Rattle.tables.proofs.cells.head_of.Tie as tie
 
-returns : tie.Need-returns
-returns c = search cell-at
-
 pub head-of-spec : {M : Type 1} → statement M
-head-of-spec = tie.close (tie.spec (search needs) (search needs) (search needs) (search needs) returns)
+head-of-spec = tie.close (tie.spec (search needs) (search needs) (search needs) (search needs) (λ c. search cell-at))
