@@ -1,11 +1,11 @@
 -- The slots below C and the later ones, and a link that is looked at a step at a time.
 -- Assumes nothing.
 use mathlib.Core.Path.{_≡_, refl, sym, ap, ap₂, _∙_}
-use mathlib.Core.Bool.{Bool, true, false, not, _&&_, cond, and-false}
+use mathlib.Core.Bool.{Bool, true, false, not, _&&_, cond}
 use mathlib.Core.List.{List}
 use Prim.Native.Nat.{ℕ, _+_, _-_, _≤_, _<_}
 use native.Mathlib.Omega.{arith}
-use borrow.Author.Tests.{eq-eqb, ne-eqb, le-leb, lt-leb, lt-ltb, le-ltb}
+use borrow.Author.Tests.{eq-eqb, ne-eqb, le-leb, lt-ltb, le-ltb}
 use lib.Dec.{leb, eqb, ltb}
 use lib.ListN.{getD}
 use Rattle.bits.specs.All.{allBelow}
@@ -13,6 +13,7 @@ use Rattle.tables.specs.declared.clock.Clock.{Clock}
 use Rattle.tables.specs.Cells.{valuesIn, stampIn, slotsIn, slotValue, slotStamp, slotLink, headOf}
 use Rattle.tables.specs.Clock.{clockIn}
 use Rattle.tables.specs.Damage.{allIn, clockFits, firstSlotFits, laterSlotFits, slotFits, slotsFit, headFits, headsFit}
+use Rattle.tables.proofs.Tests.{told, not-so}
 use Rattle.tables.proofs.Facts.{clock-facts}
 use Rattle.damage.specs.Parts.{linkFits}
 use Rattle.tables.proofs.Fold.{below-in, in-join, in-ext}
@@ -25,10 +26,7 @@ first-slot slots i n e = ap (λ (x : ℕ). eqb (getD slots i 0) x && eqb (getD s
 
 -- ---- a link
 
--- four tests: the second fails, the first two hold, one before all
-second-fails : (a b c d : Bool) → b ≡ false → false ≡ a && b && c && d
-second-fails a b c d e = sym (ap (λ (t : Bool). a && t && c && d) e ∙ ap (λ (t : Bool). t && c && d) (and-false a))
-
+-- four tests: the first two hold, one before all
 two-hold : (a b c d : Bool) → a ≡ true → b ≡ true → c && d ≡ a && b && c && d
 two-hold a b c d p q = sym (ap₂ (λ (x y : Bool). x && y && c && d) p q)
 
@@ -51,7 +49,7 @@ module _ (slots : List ℕ) (i link : ℕ) (e : link ≡ slotLink slots i) where
   -- one that does not lead to an earlier slot
   pub late-link : i < link → false ≡ linkFits slots i
   unfolding linkFits
-  late-link h = second-fails (not (eqb (slotLink slots i) 0)) (leb (slotLink slots i) i) same older (lt-leb (slotLink slots i) i (omega arith))
+  late-link h = not-so (linkFits slots i) (λ z. let l : slotLink slots i ≤ i = search told in omega arith)
 
   -- one that does
   pub early-link : (link ≡ 0 → ⊥) → link ≤ i

@@ -108,12 +108,6 @@ alike-made log k e n h l q = record { not-before = h; in-use = l; same-rows = q 
 pub alike-next : (log : List ℕ) (k f rows : ℕ) → rows ≡ recordRows log k → recordRows log f ≡ rows → recordRows log f ≡ recordRows log k
 alike-next log k f rows e q = q ∙ e
 
-pub alike-then : (log : List ℕ) (k e f n : ℕ) → Alike log k e n → Alike log e f n → Alike log k f n
-alike-then log k e f n a b = record { not-before = omega (arith, a .not-before, b .not-before); in-use = b .in-use; same-rows = b .same-rows ∙ a .same-rows }
-
-pub alike-low : (log : List ℕ) (k e n : ℕ) → Alike log k e n → e < n
-alike-low log k e n a = a .in-use
-
 -- ---- where the records are sound
 
 module _ (c log changes : List ℕ) (r : recordsFit c log ≡ true) where

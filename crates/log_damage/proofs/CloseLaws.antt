@@ -3,18 +3,18 @@
 use mathlib.Core.Path.{_≡_, refl, sym, ap, ap₂, _∙_}
 use mathlib.Core.Bool.{Bool, true, false, not, _&&_, _||_, cond}
 use mathlib.Core.List.{List}
-use mathlib.Core.Logic.{_⊎_, inl, inr}
+use mathlib.Core.Logic.{_⊎_, inl, inr, ⊎-elim}
 use Prim.Native.Nat.{ℕ, zero, suc, _+_, _-_, _*_, _≤_, _<_}
 use native.Mathlib.Omega.{arith}
 use native.Mathlib.Numerals.{add-one}
-use borrow.Author.Tests.{eqb-true, eq-eqb, ltb-true, leb-true, le-leb, lt-leb}
+use borrow.Author.Tests.{le-leb, lt-leb}
 use lib.Bits.{bitOr, or-add-and, and-le-r, and-le-l}
 use lib.Dec.{leb, eqb, ltb}
 use lib.ListN.{getD}
-use Rattle.bits.specs.Cases.{eq-cases, lt-cases}
+use Rattle.bits.specs.Cases.{lt-cases}
 use Rattle.tables.specs.Damage.{allIn, recordFits}
-use Rattle.tables.proofs.Tests.{both}
-use Rattle.tables.proofs.Facts.{in-of}
+use Rattle.tables.proofs.Tests.{told, made}
+use Rattle.tables.proofs.Facts.{kind-made, in-of}
 use Rattle.log_damage.specs.Parts.{gap, Within}
 use Rattle.log_damage.proofs.RecordLaws.{later-record}
 
@@ -28,30 +28,21 @@ pub gap-below : (a b : ℕ) → a < b → b ≤ 4294967295 → a + (4294967295 -
 unfolding gap
 gap-below a b h l = rw (lt-leb b a h) (omega arith)
 
+-- above it, or below it and so far off
+gap-cases : (a b : ℕ) → ((b ≤ a) × (gap a b ≡ a - b)) ⊎ ((a < b) × (gap a b ≡ a + (4294967296 - b)))
+unfolding gap
+gap-cases a b =
+    ⊎-elim (λ (h : a < b). inr (h, rw (lt-leb b a h))) (λ (h : b ≤ a). inl (h, rw (le-leb b a h))) (lt-cases a b)
+
 -- not far above: not below
 gap-rises : (a b top : ℕ) → gap a b ≤ top → top < 4194304 → b < 4290772992 → (b ≤ a) × (a ≤ b + 4194304)
-unfolding gap
-gap-rises a b top h l m = go (leb b a) refl h
-  where
-    go : (t : Bool) → leb b a ≡ t → cond t (a - b) (a + (4294967296 - b)) ≤ top → (b ≤ a) × (a ≤ b + 4194304)
-    go true e g = let z : b ≤ a = leb-true b a e in (z, omega arith)
-    go false e g = absurd (omega arith)
+gap-rises a b top h l m = ⊎-elim (λ p. (p .0, omega arith)) (λ p. absurd (omega arith)) (gap-cases a b)
 
 gap-none : (a b top : ℕ) → gap a b ≤ top → top ≡ 0 → b < 4294967296 → a ≡ b
-unfolding gap
-gap-none a b top h l m = go (leb b a) refl h
-  where
-    go : (t : Bool) → leb b a ≡ t → cond t (a - b) (a + (4294967296 - b)) ≤ top → a ≡ b
-    go true e g = let z : b ≤ a = leb-true b a e in omega arith
-    go false e g = absurd (omega arith)
+gap-none a b top h l m = ⊎-elim (λ p. omega arith) (λ p. absurd (omega arith)) (gap-cases a b)
 
 gap-one : (a top : ℕ) → gap a 1 ≤ top → top < 2 → (1 ≤ a) × (a ≤ 2)
-unfolding gap
-gap-one a top h l = go (leb 1 a) refl h
-  where
-    go : (t : Bool) → leb 1 a ≡ t → cond t (a - 1) (a + 4294967295) ≤ top → (1 ≤ a) × (a ≤ 2)
-    go true e g = let z : 1 ≤ a = leb-true 1 a e in (z, omega arith)
-    go false e g = absurd (omega arith)
+gap-one a top h l = ⊎-elim (λ p. (p .0, omega arith)) (λ p. absurd (omega arith)) (gap-cases a 1)
 
 -- ---- gathered
 
@@ -116,19 +107,10 @@ module _ (log : List ℕ) (n k stamps kinds rows ends : ℕ) (few : n ≤ 512) (
 
     kind-fits : (j : ℕ) → suc j < n → eqb (getD log (512 + suc j) 0) 1 || eqb (getD log (512 + suc j) 0) 2 ≡ true
     unfolding Within
-    kind-fits j h = go (getD log (512 + suc j) 0) (gap-one (getD log (512 + suc j) 0) kinds (d (suc j) (omega arith) (omega arith)) t)
-      where
-        go : (x : ℕ) → (1 ≤ x) × (x ≤ 2) → eqb x 1 || eqb x 2 ≡ true
-        go x b = pickOne x (eq-cases x 1) b
-          where
-            pickOne : (y : ℕ) → (y ≡ 1) ⊎ (y ≡ 1 → ⊥) → (1 ≤ y) × (y ≤ 2) → eqb y 1 || eqb y 2 ≡ true
-            pickOne y (inl q) c = rw q
-            pickOne y (inr q) c = let f : y ≡ 2 = omega (arith, two y q c) in rw f
-              where
-                two : (m : ℕ) → (m ≡ 1 → ⊥) → (1 ≤ m) × (m ≤ 2) → m ≡ 2
-                two zero f c = absurd (omega arith)
-                two (suc zero) f c = absurd (f refl)
-                two (suc (suc m)) f c = omega arith
+    kind-fits j h =
+        let b = gap-one (getD log (512 + suc j) 0) kinds (d (suc j) (omega arith) (omega arith)) t in
+        kind-made (getD log (512 + suc j) 0)
+        (⊎-elim (λ l. inl (omega arith)) (λ l. inr (omega arith)) (lt-cases (getD log (512 + suc j) 0) 2))
 
     rows-step : (j : ℕ) → suc j < n → gap (rowsOf (suc j)) (rowsOf j) ≤ rows
     unfolding Within
@@ -149,27 +131,21 @@ module _ (log : List ℕ) (n k stamps kinds rows ends : ℕ) (few : n ≤ 512) (
     record-fits : (j : ℕ) → 1 ≤ j → j < n → recordFits 0 log j ≡ true
     record-fits zero h l = absurd (omega arith)
     record-fits (suc j) h l =
+        let p = stamp-fits j l in
+        let q = kind-fits j l in
+        let a = rows-fit j l in
+        let b = end-fits j l in
         sym (later-record log (suc j) (suc j) (eqb (getD log (512 + suc j) 0) 1 || eqb (getD log (512 + suc j) 0) 2)
         (omega arith) refl refl)
-        ∙ ap₂ (λ (x y : Bool). x && y)
-        (ap₂ (λ (x y : Bool). x && y) (ap₂ (λ (x y : Bool). x && y) (eq-eqb (getD log (suc j) 0) (suc j + 1) (stamp-fits j l))
-        (kind-fits j l))
-        (le-leb (getD log (1023 + suc j) 0) (getD log (1024 + suc j) 0) (rows-fit j l)))
-        (le-leb (getD log (1535 + suc j) 0) (getD log (1536 + suc j) 0) (end-fits j l))
+        ∙ search made depth 8
 
   pub close-fits : eqb stamps 0 && ltb kinds 2 && ltb rows 4194304 && ltb ends 4194304 && (leb (getD log 1024 0) 2048 && leb
       (getD log 1536 0) 2048) ≡ true
       → allIn (recordFits 0 log) 1 n ≡ true
   close-fits h =
-      let a : _ = both (eqb stamps 0 && ltb kinds 2 && ltb rows 4194304 && ltb ends 4194304) (leb (getD log 1024 0) 2048 && leb
-      (getD log 1536 0) 2048) h in
-      let b : _ = both (leb (getD log 1024 0) 2048) (leb (getD log 1536 0) 2048) (a .1) in
-      let f : _ = both (eqb stamps 0 && ltb kinds 2 && ltb rows 4194304) (ltb ends 4194304) (a .0) in
-      let g : _ = both (eqb stamps 0 && ltb kinds 2) (ltb rows 4194304) (f .0) in
-      let i : _ = both (eqb stamps 0) (ltb kinds 2) (g .0) in
       in-of (recordFits 0 log) 1 n
-      (record-fits (eqb-true stamps 0 (i .0)) (ltb-true kinds 2 (i .1)) (ltb-true rows 4194304 (g .1)) (ltb-true ends 4194304 (f .1))
-      (leb-true (getD log 1024 0) 2048 (b .0)) (leb-true (getD log 1536 0) 2048 (b .1)))
+      (record-fits (search told depth 8) (search told depth 8) (search told depth 8) (search told depth 8) (search told depth 8)
+      (search told depth 8))
 
 -- at once, or one by one
 pub close-records : (w t : Bool) → (t ≡ true → w ≡ true) → t ≡ true → true ≡ w

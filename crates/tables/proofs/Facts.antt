@@ -134,7 +134,7 @@ pub record RecordFacts (first : ℕ) (log : List ℕ) (k : ℕ) : Type 0 where
 kind-cases : (n : ℕ) → eqb n 1 || eqb n 2 ≡ true → (n ≡ 1) ⊎ (n ≡ 2)
 kind-cases n e = ⊎-elim (λ p. inl (eqb-true n 1 p)) (λ p. inr (eqb-true n 2 p)) (either _ _ e)
 
-kind-made : (n : ℕ) → (n ≡ 1) ⊎ (n ≡ 2) → eqb n 1 || eqb n 2 ≡ true
+pub kind-made : (n : ℕ) → (n ≡ 1) ⊎ (n ≡ 2) → eqb n 1 || eqb n 2 ≡ true
 kind-made n (inl e) = or-left (eqb n 1) (eqb n 2) (eq-eqb n 1 e)
 kind-made n (inr e) = or-right (eqb n 1) (eqb n 2) (eq-eqb n 2 e)
 

@@ -3,7 +3,7 @@
 use mathlib.Core.Path.{_≡_, refl, sym, _∙_}
 use mathlib.Core.Bool.{Bool, true, false, not, _&&_, _||_, and-eq-true-iff, true≢false}
 use mathlib.Core.Logic.{_⊎_, inl, inr}
-use borrow.Author.Tests.{not-true, leb-true, le-leb, ltb-true, lt-ltb, eqb-true, eq-eqb}
+use borrow.Author.Tests.{not-true, not-false, leb-true, le-leb, ltb-true, lt-ltb, eqb-true, eq-eqb}
 
 pub both : (a b : Bool) → a && b ≡ true → (a ≡ true) × (b ≡ true)
 both a b = and-eq-true-iff a b .0
@@ -39,6 +39,9 @@ pub not-so : (x : Bool) → (x ≡ true → ⊥) → false ≡ x
 not-so true h = absurd (h refl)
 not-so false h = refl
 
--- a test that the code found false does not hold
+-- a test that the code found true, or false
+pub found-true : (b x : Bool) → b ≡ x → not b ≡ false → x ≡ true
+found-true b x e h = sym e ∙ not-false b h
+
 pub found-false : (b x : Bool) → b ≡ x → not b ≡ true → x ≡ true → ⊥
 found-false b x e h q = true≢false (sym q ∙ sym e ∙ not-true b h)

@@ -5,11 +5,8 @@ use Rattle.damage.proofs.SlotLaws.{first-slot}
 use Rattle.damage.proofs.slots.first_slot_fits.Statement.{statement}
 use Rattle.damage.proofs.slots.first_slot_fits.Tie as tie
 
-returns : tie.Need-returns
-returns c = search first-slot
-
 pub first-slot-fits-spec : {M : Type 1} → statement M
 first-slot-fits-spec =
     tie.close
     (tie.spec (search needs) (search needs) (search needs) (search needs) (search needs) (search needs) (search needs)
-    (search needs) (search needs) returns)
+    (search needs) (search needs) (λ c. search first-slot))

@@ -16,17 +16,8 @@ Inv-loop slots n ok₀ i₀ ok i = allBelow (firstSlotFits slots) n ≡ ok && al
 abbrev μ-loop : tie.MeasureT-loop
 μ-loop slots n ok₀ i₀ ok i = n - i
 
-loop-holds : tie.Need-loop-holds Inv-loop μ-loop
-loop-holds c = search below-in
-
-loop-less : tie.Need-loop-less Inv-loop μ-loop
-loop-less c = omega arith
-
-loop-again : tie.Need-loop-again Inv-loop μ-loop
-loop-again c = search fold-again
-
-returns : tie.Need-returns Inv-loop μ-loop
-returns c = search fold-end
-
 pub first-slots-fit-spec : {M : Type 1} → statement M
-first-slots-fit-spec = tie.close (tie.spec Inv-loop μ-loop loop-holds (omega arith) (omega arith) loop-less loop-again returns)
+first-slots-fit-spec =
+    tie.close
+    (tie.spec Inv-loop μ-loop (λ c. search below-in) (omega arith) (omega arith) (omega arith) (λ c. search fold-again)
+    (λ c. search fold-end))

@@ -20,20 +20,8 @@ abbrev μ-loop : tie.MeasureT-loop
 loop-holds : tie.Need-loop-holds Inv-loop μ-loop
 loop-holds c = (search low-values, search low-slots, search all-heads)
 
-returns : tie.Need-returns Inv-loop μ-loop
-returns c = search scan-fails
-
-loop-less : tie.Need-loop-less Inv-loop μ-loop
-loop-less c = omega arith
-
-loop-again : tie.Need-loop-again Inv-loop μ-loop
-loop-again c = (omega arith, omega arith, search scan-again)
-
-returns-2 : tie.Need-returns-2 Inv-loop μ-loop
-returns-2 c = search scan-end
-
 pub heads-fit-spec : {M : Type 1} → statement M
 heads-fit-spec =
     tie.close
-    (tie.spec Inv-loop μ-loop (search needs) (search needs) (search needs) loop-holds (omega arith) returns (omega arith) loop-less
-    loop-again returns-2)
+    (tie.spec Inv-loop μ-loop (search needs) (search needs) (search needs) loop-holds (omega arith) (λ c. search scan-fails)
+    (omega arith) (omega arith) (λ c. (omega arith, omega arith, search scan-again)) (λ c. search scan-end))

@@ -16,23 +16,14 @@ Inv-loop slots values last used i₀ i = allIn (laterSlotFits (values .0) (last 
 abbrev μ-loop : tie.MeasureT-loop
 μ-loop slots values last used i₀ i = used - i
 
-loop-holds : tie.Need-loop-holds Inv-loop μ-loop
-loop-holds c = search scan-begin
-
 returns : tie.Need-returns Inv-loop μ-loop
 returns c = search (scan-fails, later-slot)
-
-loop-less : tie.Need-loop-less Inv-loop μ-loop
-loop-less c = omega arith
 
 loop-again : tie.Need-loop-again Inv-loop μ-loop
 loop-again c = search (scan-again, later-slot)
 
-returns-2 : tie.Need-returns-2 Inv-loop μ-loop
-returns-2 c = search scan-end
-
 pub later-slots-fit-spec : {M : Type 1} → statement M
 later-slots-fit-spec =
     tie.close
-    (tie.spec Inv-loop μ-loop (search needs) loop-holds (omega arith) (omega arith) (omega arith) (omega arith) (omega arith)
-    (omega arith) returns (omega arith) loop-less loop-again returns-2)
+    (tie.spec Inv-loop μ-loop (search needs) (λ c. search scan-begin) (omega arith) (omega arith) (omega arith) (omega arith)
+    (omega arith) (omega arith) returns (omega arith) (omega arith) loop-again (λ c. search scan-end))

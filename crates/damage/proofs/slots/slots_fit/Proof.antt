@@ -7,16 +7,8 @@ use Rattle.damage.proofs.SlotLaws.{all-slots}
 use Rattle.damage.proofs.slots.slots_fit.Statement.{statement}
 use Rattle.damage.proofs.slots.slots_fit.Tie as tie
 
-first-slots-fit-requires : tie.Need-first-slots-fit-requires
-first-slots-fit-requires c κs = (search low-first-slots, omega arith)
-
-later-slots-fit-requires : tie.Need-later-slots-fit-requires
-later-slots-fit-requires c κs = (search low-slots, omega arith)
-
-returns : tie.Need-returns
-returns c = search all-slots
-
 pub slots-fit-spec : {M : Type 1} → statement M
 slots-fit-spec =
     tie.close
-    (tie.spec (search needs) (search needs) (search needs) (search needs) first-slots-fit-requires later-slots-fit-requires returns)
+    (tie.spec (search needs) (search needs) (search needs) (search needs) (λ c κs. (search low-first-slots, omega arith))
+    (λ c κs. (search low-slots, omega arith)) (λ c. search all-slots))

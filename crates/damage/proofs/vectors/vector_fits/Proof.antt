@@ -5,11 +5,8 @@ use Rattle.damage.proofs.VectorLaws.{one-vector}
 use Rattle.damage.proofs.vectors.vector_fits.Statement.{statement}
 use Rattle.damage.proofs.vectors.vector_fits.Tie as tie
 
-returns : tie.Need-returns
-returns c = search one-vector
-
 pub vector-fits-spec : {M : Type 1} → statement M
 vector-fits-spec =
     tie.close
     (tie.spec (search needs) (search needs) (search needs) (search needs) (search needs) (search needs) (search needs)
-    (search needs) (search needs) (search needs) returns)
+    (search needs) (search needs) (search needs) (λ c. search one-vector))

@@ -10,17 +10,11 @@ use Rattle.damage.proofs.vectors.vectors_fit.Tie as tie
 tails-clear-requires : tie.Need-tails-clear-requires
 tails-clear-requires c κs = search (room-for, low-slots)
 
-returns : tie.Need-returns
-returns c = search clear-from-first
-
 each-vector-fits-requires : tie.Need-each-vector-fits-requires
 each-vector-fits-requires c κs = (search low-slots, omega arith, omega arith, omega arith, search stamps-low)
-
-returns-2 : tie.Need-returns-2
-returns-2 c = search each-vector
 
 pub vectors-fit-spec : {M : Type 1} → statement M
 vectors-fit-spec =
     tie.close
-    (tie.spec (search needs) (search needs) (search needs) (search needs) tails-clear-requires returns each-vector-fits-requires
-    returns-2)
+    (tie.spec (search needs) (search needs) (search needs) (search needs) tails-clear-requires (λ c. search clear-from-first)
+    each-vector-fits-requires (λ c. search each-vector))

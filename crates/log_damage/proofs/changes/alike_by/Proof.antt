@@ -15,23 +15,12 @@ Inv-loop log k n step rows e₀ e = (k ≤ e) × (e < n) × (rows ≡ recordRows
 abbrev μ-loop : tie.MeasureT-loop
 μ-loop log k n step rows e₀ e = n - e
 
-loop-holds : tie.Need-loop-holds Inv-loop μ-loop
-loop-holds c = (omega arith, omega arith, refl, refl)
-
-returns : tie.Need-returns Inv-loop μ-loop
-returns c = search alike-made
-
-loop-less : tie.Need-loop-less Inv-loop μ-loop
-loop-less c = omega arith
-
 loop-again : tie.Need-loop-again Inv-loop μ-loop
 loop-again c = (omega arith, omega arith, search needs, search alike-next)
-
-returns-2 : tie.Need-returns-2 Inv-loop μ-loop
-returns-2 c = search alike-made
 
 pub alike-by-spec : {M : Type 1} → statement M
 alike-by-spec =
     tie.close
-    (tie.spec Inv-loop μ-loop (omega arith) (omega arith) (omega arith) loop-holds (omega arith) (omega arith) (omega arith)
-    (omega arith) (omega arith) returns (omega arith) loop-less loop-again returns-2)
+    (tie.spec Inv-loop μ-loop (omega arith) (omega arith) (omega arith) (λ c. (omega arith, omega arith, refl, refl)) (omega arith)
+    (omega arith) (omega arith) (omega arith) (omega arith) (λ c. search alike-made) (omega arith) (omega arith) loop-again
+    (λ c. search alike-made))

@@ -7,20 +7,11 @@ use Rattle.log_damage.proofs.ChangeLaws.{rising, bad-sets, each-rows}
 use Rattle.log_damage.proofs.changes.changes_fit.Statement.{statement}
 use Rattle.log_damage.proofs.changes.changes_fit.Tie as tie
 
-gathered-requires : tie.Need-gathered-requires
-gathered-requires c κs = search low-sets
-
-returns : tie.Need-returns
-returns c = search bad-sets
-
 each-rows-fit-requires : tie.Need-each-rows-fit-requires
 each-rows-fit-requires c κs = (search low-records, omega arith, omega arith, search rising)
-
-returns-2 : tie.Need-returns-2
-returns-2 c = search each-rows
 
 pub changes-fit-spec : {M : Type 1} → statement M
 changes-fit-spec =
     tie.close
-    (tie.spec (search needs) (search needs) (search needs) gathered-requires (search needs) returns (search needs)
-    each-rows-fit-requires returns-2)
+    (tie.spec (search needs) (search needs) (search needs) (λ c κs. search low-sets) (search needs) (λ c. search bad-sets)
+    (search needs) each-rows-fit-requires (λ c. search each-rows))

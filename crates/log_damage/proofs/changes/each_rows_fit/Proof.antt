@@ -23,26 +23,12 @@ Inv-loop log changes n k₀ from₀ k from =
 abbrev μ-loop : tie.MeasureT-loop
 μ-loop log changes n k₀ from₀ k from = n - k
 
-loop-holds : tie.Need-loop-holds Inv-loop μ-loop
-loop-holds c = (refl, search below-in)
-
 rows-below-requires : tie.Need-rows-below-requires Inv-loop μ-loop
 rows-below-requires c κs = (search stretch-order, search stretch-low, omega arith)
-
-returns : tie.Need-returns Inv-loop μ-loop
-returns c = search stretch-fails
-
-loop-less : tie.Need-loop-less Inv-loop μ-loop
-loop-less c = omega arith
-
-loop-again : tie.Need-loop-again Inv-loop μ-loop
-loop-again c = (search stretch-ends, search stretch-again)
-
-returns-2 : tie.Need-returns-2 Inv-loop μ-loop
-returns-2 c = search scan-end
 
 pub each-rows-fit-spec : {M : Type 1} → statement M
 each-rows-fit-spec =
     tie.close
-    (tie.spec Inv-loop μ-loop loop-holds (search needs) (omega arith) (omega arith) (omega arith) (omega arith) (omega arith)
-    (omega arith) (search needs) rows-below-requires returns (omega arith) loop-less loop-again returns-2)
+    (tie.spec Inv-loop μ-loop (λ c. (refl, search below-in)) (search needs) (omega arith) (omega arith) (omega arith) (omega arith)
+    (omega arith) (omega arith) (search needs) rows-below-requires (λ c. search stretch-fails) (omega arith) (omega arith)
+    (λ c. (search stretch-ends, search stretch-again)) (λ c. search scan-end))

@@ -18,17 +18,11 @@ abbrev μ-loop : tie.MeasureT-loop
 loop-holds : tie.Need-loop-holds Inv-loop μ-loop
 loop-holds c = (omega arith, omega arith, omega arith, search pairs-none)
 
-loop-less : tie.Need-loop-less Inv-loop μ-loop
-loop-less c = omega arith
-
 loop-again : tie.Need-loop-again Inv-loop μ-loop
 loop-again c = (omega arith, omega arith, omega arith, search pairs-more)
-
-returns : tie.Need-returns Inv-loop μ-loop
-returns c = search all-gathered
 
 pub gathered-spec : {M : Type 1} → statement M
 gathered-spec =
     tie.close
     (tie.spec Inv-loop μ-loop (omega arith) (omega arith) loop-holds (omega arith) (omega arith) (omega arith) (omega arith)
-    (omega arith) (omega arith) (omega arith) loop-less loop-again returns)
+    (omega arith) (omega arith) (omega arith) (omega arith) loop-again (λ c. search all-gathered))

@@ -5,11 +5,5 @@ use Rattle.log_damage.proofs.GatherLaws.{rows-gathered}
 use Rattle.log_damage.proofs.changes.rows_below.Statement.{statement}
 use Rattle.log_damage.proofs.changes.rows_below.Tie as tie
 
-returns : tie.Need-returns
-returns c = search rows-gathered
-
-returns-2 : tie.Need-returns-2
-returns-2 c = search needs
-
 pub rows-below-spec : {M : Type 1} → statement M
-rows-below-spec = tie.close (tie.spec (search needs) (search needs) returns (search needs) returns-2)
+rows-below-spec = tie.close (tie.spec (search needs) (search needs) (λ c. search rows-gathered) (search needs) (λ c. search needs))

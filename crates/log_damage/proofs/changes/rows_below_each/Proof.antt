@@ -16,20 +16,11 @@ Inv-loop changes from to rows ok₀ p₀ ok p = allIn (rowBelow changes (rows .0
 abbrev μ-loop : tie.MeasureT-loop
 μ-loop changes from to rows ok₀ p₀ ok p = to - p
 
-loop-holds : tie.Need-loop-holds Inv-loop μ-loop
-loop-holds c = refl
-
-loop-less : tie.Need-loop-less Inv-loop μ-loop
-loop-less c = omega arith
-
 loop-again : tie.Need-loop-again Inv-loop μ-loop
 unfolding rowBelow
 loop-again c = search fold-again
 
-returns : tie.Need-returns Inv-loop μ-loop
-returns c = search fold-end
-
 pub rows-below-each-spec : {M : Type 1} → statement M
 rows-below-each-spec =
     tie.close
-    (tie.spec Inv-loop μ-loop loop-holds (omega arith) (omega arith) (omega arith) loop-less loop-again returns)
+    (tie.spec Inv-loop μ-loop (λ c. refl) (omega arith) (omega arith) (omega arith) (omega arith) loop-again (λ c. search fold-end))

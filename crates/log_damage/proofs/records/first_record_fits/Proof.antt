@@ -5,8 +5,5 @@ use Rattle.log_damage.proofs.RecordLaws.{first-record}
 use Rattle.log_damage.proofs.records.first_record_fits.Statement.{statement}
 use Rattle.log_damage.proofs.records.first_record_fits.Tie as tie
 
-returns : tie.Need-returns
-returns c = search first-record
-
 pub first-record-fits-spec : {M : Type 1} → statement M
-first-record-fits-spec = tie.close (tie.spec (search needs) (search needs) (search needs) (search needs) returns)
+first-record-fits-spec = tie.close (tie.spec (search needs) (search needs) (search needs) (search needs) (λ c. search first-record))

@@ -5,12 +5,9 @@ use Rattle.log_damage.proofs.RecordLaws.{later-record}
 use Rattle.log_damage.proofs.records.later_record_fits.Statement.{statement}
 use Rattle.log_damage.proofs.records.later_record_fits.Tie as tie
 
-returns : tie.Need-returns
-returns c = search later-record
-
 pub later-record-fits-spec : {M : Type 1} → statement M
 later-record-fits-spec =
     tie.close
     (tie.spec (search needs) (search needs) (search needs) (search needs) (search needs) (search needs) (search needs)
     (search needs) (search needs) (search needs) (search needs) (search needs) (search needs) (search needs) (search needs)
-    (search needs) (search needs) (search needs) (search needs) (search needs) returns)
+    (search needs) (search needs) (search needs) (search needs) (search needs) (λ c. search later-record))

@@ -19,9 +19,6 @@ abbrev μ-loop : tie.MeasureT-loop
 loop-holds : tie.Need-loop-holds Inv-loop μ-loop
 loop-holds c = (omega arith, search within-none, search within-none, search within-none, search within-none)
 
-loop-less : tie.Need-loop-less Inv-loop μ-loop
-loop-less c = omega arith
-
 loop-again : tie.Need-loop-again Inv-loop μ-loop
 loop-again c =
     let l : _ = c .before .before .before .before .before .before .before .before .before .before .before .before .loop in (
@@ -36,13 +33,10 @@ loop-again c =
       within-more _ _ _ _ _ (l .inv .4) (c .off4 .ensures),
     )
 
-returns : tie.Need-returns Inv-loop μ-loop
-returns c = search close-fits
-
 pub later-records-close-spec : {M : Type 1} → statement M
 later-records-close-spec =
     tie.close
     (tie.spec Inv-loop μ-loop loop-holds (omega arith) (omega arith) (omega arith) (omega arith) (search needs) (omega arith)
     (omega arith) (omega arith) (search needs) (omega arith) (omega arith) (omega arith) (omega arith) (omega arith) (omega arith)
     (search needs) (omega arith) (omega arith) (omega arith) (omega arith) (omega arith) (omega arith) (search needs) (omega arith)
-    loop-less loop-again (omega arith) (omega arith) returns)
+    (omega arith) loop-again (omega arith) (omega arith) (λ c. search close-fits))

@@ -8,8 +8,5 @@ use Rattle.log_damage.proofs.records.later_records_fit.Tie as tie
 returns : tie.Need-returns
 returns c = search (close-records, c .before .later-records-close .ensures)
 
-returns-2 : tie.Need-returns-2
-returns-2 c = search needs
-
 pub later-records-fit-spec : {M : Type 1} → statement M
-later-records-fit-spec = tie.close (tie.spec (search needs) returns (search needs) returns-2)
+later-records-fit-spec = tie.close (tie.spec (search needs) returns (search needs) (λ c. search needs))

@@ -6,11 +6,8 @@ use Rattle.log_damage.proofs.CloseLaws.{gap-above, gap-below}
 use Rattle.log_damage.proofs.records.off.Statement.{statement}
 use Rattle.log_damage.proofs.records.off.Tie as tie
 
-returns : tie.Need-returns
-returns c = search gap-above
-
 returns-2 : tie.Need-returns-2
 returns-2 c = gap-below _ _ (omega arith) (omega arith)
 
 pub off-spec : {M : Type 1} → statement M
-off-spec = tie.close (tie.spec (search needs) (search needs) (search needs) returns returns-2)
+off-spec = tie.close (tie.spec (search needs) (search needs) (search needs) (λ c. search gap-above) returns-2)
