@@ -43,7 +43,8 @@ module _ (clock slots words heads log changes : List ℕ) where
     bad-heads e = not-so fits (λ z. found-false b (headsFit clock slots heads) e h (number-parts z .heads-fit))
 
   -- the last table decides
-  pub vectors-decide : (r : Bool) → clockFits clock ≡ true → recordsFit clock log ≡ true → changesFit clock log changes ≡ true → slotsFit clock slots ≡ true
+  pub vectors-decide : (r : Bool) → clockFits clock ≡ true → recordsFit clock log ≡ true → changesFit clock log changes ≡ true
+      → slotsFit clock slots ≡ true
       → headsFit clock slots heads ≡ true → r ≡ vectorsFit clock log slots words → r ≡ fits
   unfolding numbersFit
   vectors-decide r p q s t u e =

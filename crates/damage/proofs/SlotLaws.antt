@@ -57,7 +57,8 @@ module _ (slots : List ℕ) (i link : ℕ) (e : link ≡ slotLink slots i) where
   unfolding linkFits
   early-link n h =
       ap (λ (x : ℕ). eqb (slotValue slots (x - 1)) (slotValue slots i) && ltb (slotStamp slots (x - 1)) (slotStamp slots i)) e
-      ∙ two-hold (not (eqb (slotLink slots i) 0)) (leb (slotLink slots i) i) same older (ap not (ne-eqb (slotLink slots i) 0 (λ z. n (e ∙ z)))) (le-leb (slotLink slots i) i (omega arith))
+      ∙ two-hold (not (eqb (slotLink slots i) 0)) (leb (slotLink slots i) i) same older
+      (ap not (ne-eqb (slotLink slots i) 0 (λ z. n (e ∙ z)))) (le-leb (slotLink slots i) i (omega arith))
 
 -- a later slot: its value and its stamp, and its link
 pub later-slot : (values last : ℕ) (slots : List ℕ) (i : ℕ) (b : Bool) → b ≡ linkFits slots i
@@ -65,7 +66,8 @@ pub later-slot : (values last : ℕ) (slots : List ℕ) (i : ℕ) (b : Bool) →
 unfolding linkFits laterSlotFits
 later-slot values last slots i b e =
     ap (λ (t : Bool). ltb (slotValue slots i) values && leb (slotStamp slots i) last && t) e
-    ∙ one-before (ltb (slotValue slots i) values && leb (slotStamp slots i) last) (not (eqb (slotLink slots i) 0)) (leb (slotLink slots i) i)
+    ∙ one-before (ltb (slotValue slots i) values && leb (slotStamp slots i) last) (not (eqb (slotLink slots i) 0))
+    (leb (slotLink slots i) i)
     (eqb (slotValue slots (slotLink slots i - 1)) (slotValue slots i)) (ltb (slotStamp slots (slotLink slots i - 1)) (slotStamp slots i))
 
 -- ---- all slots
@@ -87,12 +89,14 @@ module _ (clock slots : List ℕ) (f : clockFits clock ≡ true) where
       below-in any (slotsIn clock)
       ∙ in-join any 0 (valuesIn clock) (slotsIn clock) (omega arith) (clock-facts clock f .slots-low)
       ∙ ap₂ (λ (x y : Bool). x && y)
-      (in-ext any (firstSlotFits slots) 0 (valuesIn clock) (λ i h l. choose i true (lt-ltb i (valuesIn clock) l)) ∙ sym (below-in (firstSlotFits slots) (valuesIn clock)))
+      (in-ext any (firstSlotFits slots) 0 (valuesIn clock) (λ i h l. choose i true (lt-ltb i (valuesIn clock) l))
+      ∙ sym (below-in (firstSlotFits slots) (valuesIn clock)))
       (in-ext any later (valuesIn clock) (slotsIn clock) (λ i h l. choose i false (le-ltb i (valuesIn clock) h)))
 
   -- what the code asks, with the numbers that it copied
   pub all-slots : (c : Clock) (v u used : ℕ) (a b : Bool) → c ≡ clockIn clock → v ≡ c .values .0 → u ≡ slotsIn clock → used ≡ u
-      → a ≡ allBelow (firstSlotFits slots) v → b ≡ allIn (laterSlotFits (c .values .0) (c .stamp .0) slots) (c .values .0) used → a && b ≡ slotsFit clock slots
+      → a ≡ allBelow (firstSlotFits slots) v → b ≡ allIn (laterSlotFits (c .values .0) (c .stamp .0) slots) (c .values .0) used
+      → a && b ≡ slotsFit clock slots
   unfolding clockIn
   all-slots c v u used a b e g h i p q =
       let x : c .values .0 ≡ valuesIn clock = ap (λ (k : Clock). k .values .0) e in
@@ -118,4 +122,5 @@ pub all-heads : (clock slots heads : List ℕ) (u used : ℕ) → u ≡ slotsIn 
     → headsFit clock slots heads ≡ allIn (headFits used slots heads) 0 (valuesIn clock)
 unfolding headsFit
 all-heads clock slots heads u used e g =
-    below-in (headFits (slotsIn clock) slots heads) (valuesIn clock) ∙ ap (λ (k : ℕ). allIn (headFits k slots heads) 0 (valuesIn clock)) (sym (g ∙ e))
+    below-in (headFits (slotsIn clock) slots heads) (valuesIn clock)
+    ∙ ap (λ (k : ℕ). allIn (headFits k slots heads) 0 (valuesIn clock)) (sym (g ∙ e))

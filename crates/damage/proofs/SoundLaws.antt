@@ -72,5 +72,6 @@ module _ (t : Tables) where
   -- and with the clock as it is read before the tables' lengths are known
   pub judged-sound-lent : roomy t ≡ true → fits && sessionsJudged (t .sessions) (t .log) (lentClock (t .clock)) ≡ sound t
   judged-sound-lent r =
-      ap (λ (c : Clock). fits && sessionsJudged (t .sessions) (t .log) c) (sym (clock-long (t .clock) (clockIn (t .clock)) (room-facts t r .clock-room) refl))
+      ap (λ (c : Clock). fits && sessionsJudged (t .sessions) (t .log) c)
+      (sym (clock-long (t .clock) (clockIn (t .clock)) (room-facts t r .clock-room) refl))
       ∙ judged-sound r

@@ -17,7 +17,8 @@ pub fn numbers_fit(
     changes: &[u32],
 ) -> bool
     requires { ⌜ Roomy (now clock) (now slots) (now words) (now heads) (now log) (now changes) ⌝ }
-    ensures { λ r. ⌜ r ≡ numbersFit (now (clock .entry)) (now (slots .entry)) (now (words .entry)) (now (heads .entry)) (now (log .entry)) (now (changes .entry)) ⌝ }
+    ensures { λ r. ⌜ r ≡ numbersFit (now (clock .entry)) (now (slots .entry)) (now (words .entry)) (now (heads .entry))
+        (now (log .entry)) (now (changes .entry)) ⌝ }
 {
     if !clock::clock_fits(clock) {
         return false;

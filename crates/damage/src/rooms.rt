@@ -13,7 +13,8 @@ pub fn room(
     changes: &[u32],
     places: usize,
 ) -> bool
-    ensures { λ r. ⌜ r ≡ roomFor (now (clock .entry)) (now (slots .entry)) (now (words .entry)) (now (heads .entry)) (now (log .entry)) (now (changes .entry)) places ⌝ }
+    ensures { λ r. ⌜ r ≡ roomFor (now (clock .entry)) (now (slots .entry)) (now (words .entry)) (now (heads .entry))
+        (now (log .entry)) (now (changes .entry)) places ⌝ }
 {
     (6 <= clock.len())
         & (288 <= slots.len())

@@ -13,7 +13,7 @@ use Rattle.bits.specs.All.{allBelow, all-at, all-of}
 use Rattle.bits.specs.Cases.{same-truth}
 use Rattle.bits.specs.Sets.{setBelow, below-lt, lt-below}
 use Rattle.tables.specs.declared.clock.Clock.{Clock}
-use Rattle.tables.specs.Cells.{valuesIn, firstIn, stampIn, changesIn, recordRows, recordEnd, endAt, changeRow, changeSet}
+use Rattle.tables.specs.Cells.{valuesIn, stampIn, changesIn, recordRows, recordEnd, endAt, changeRow, changeSet}
 use Rattle.tables.specs.Clock.{clockIn}
 use Rattle.tables.specs.Damage.{allIn, clockFits, recordsFit, changesFit}
 use Rattle.tables.proofs.Tests.{both, and-both}
@@ -33,14 +33,18 @@ lt-row changes rows p = lt-ltb (changeRow changes p) rows
 module _ (log changes : List ℕ) (k : ℕ) where
   record-at : recordRowsFit log changes k ≡ true → (p : ℕ) → endAt log k ≤ p → p < recordEnd log k → changeRow changes p < recordRows log k
   unfolding recordRowsFit
-  record-at e p h l = row-lt changes (recordRows log k) p (in-at (rowBelow changes (recordRows log k)) (endAt log k) (recordEnd log k) e p h l)
+  record-at e p h l =
+      row-lt changes (recordRows log k) p (in-at (rowBelow changes (recordRows log k)) (endAt log k) (recordEnd log k) e p h l)
 
-  record-of : ((p : ℕ) → endAt log k ≤ p → p < recordEnd log k → changeRow changes p < recordRows log k) → recordRowsFit log changes k ≡ true
+  record-of : ((p : ℕ) → endAt log k ≤ p → p < recordEnd log k → changeRow changes p < recordRows log k)
+      → recordRowsFit log changes k ≡ true
   unfolding recordRowsFit
-  record-of h = in-of (rowBelow changes (recordRows log k)) (endAt log k) (recordEnd log k) (λ p m n. lt-row changes (recordRows log k) p (h p m n))
+  record-of h =
+      in-of (rowBelow changes (recordRows log k)) (endAt log k) (recordEnd log k) (λ p m n. lt-row changes (recordRows log k) p (h p m n))
 
   -- a record of that row count
-  record-is : (rows : ℕ) → recordRows log k ≡ rows → allIn (recordRowsFit log changes) k (suc k) ≡ allIn (rowBelow changes rows) (endAt log k) (endAt log (suc k))
+  record-is : (rows : ℕ) → recordRows log k ≡ rows
+      → allIn (recordRowsFit log changes) k (suc k) ≡ allIn (rowBelow changes rows) (endAt log k) (endAt log (suc k))
   unfolding recordRowsFit
   record-is rows e =
       ap (allIn (recordRowsFit log changes) k) (sym (add-one k)) ∙ in-one (recordRowsFit log changes) k
@@ -57,7 +61,8 @@ module _ (log changes : List ℕ) (n : ℕ) (r : Rising log n) where
 
   -- their changes are one stretch, and are judged as one
   together : (rows k e : ℕ) → k ≤ e → e ≤ n → ((j : ℕ) → k ≤ j → j < e → recordRows log j ≡ rows) → fits k e ≡ low rows k e
-  together rows k zero h l f = in-none (recordRowsFit log changes) k 0 (omega arith) ∙ sym (in-none (rowBelow changes rows) (endAt log k) 0 (omega arith))
+  together rows k zero h l f =
+      in-none (recordRowsFit log changes) k 0 (omega arith) ∙ sym (in-none (rowBelow changes rows) (endAt log k) 0 (omega arith))
   together rows k (suc e) h l f = go (eq-or-lt-of-le h) (λ m. together rows k e m (omega arith) (λ j p q. f j p (omega arith)))
     where
       go : (k ≡ suc e) ⊎ (k < suc e) → (k ≤ e → fits k e ≡ low rows k e) → fits k (suc e) ≡ low rows k (suc e)
@@ -67,7 +72,8 @@ module _ (log changes : List ℕ) (n : ℕ) (r : Rising log n) where
       go (inr m) ih =
           in-join (recordRowsFit log changes) k e (suc e) (omega arith) (omega arith)
           ∙ ap₂ (λ (x y : Bool). x && y) (ih (le-of-suc-le-suc m)) (record-is log changes e rows (f e (omega arith) (omega arith)))
-          ∙ sym (in-join (rowBelow changes rows) (endAt log k) (endAt log e) (endAt log (suc e)) (r .ends-rise k e (omega arith) (omega arith)) (r .ends-rise e (suc e) (omega arith) l))
+          ∙ sym (in-join (rowBelow changes rows) (endAt log k) (endAt log e) (endAt log (suc e))
+          (r .ends-rise k e (omega arith) (omega arith)) (r .ends-rise e (suc e) (omega arith) l))
 
   module _ (k e : ℕ) (a : Alike log k e n) where
     -- "row counts never fall": those between have it too
@@ -82,7 +88,8 @@ module _ (log changes : List ℕ) (n : ℕ) (r : Rising log n) where
         (ap (λ (x : ℕ). fits x n) (sym (add-one e)))
 
     -- with the numbers that the code copied
-    module _ (from to : ℕ) (w t : Bool) (x : from ≡ endAt log k) (y : to ≡ recordEnd log e) (z : w ≡ fits k n) (q : t ≡ allIn (rowBelow changes (recordRows log e)) from to) where
+    module _ (from to : ℕ) (w t : Bool) (x : from ≡ endAt log k) (y : to ≡ recordEnd log e) (z : w ≡ fits k n)
+        (q : t ≡ allIn (rowBelow changes (recordRows log e)) from to) where
       judged : w ≡ t && fits (e + 1) n
       judged = z ∙ stretch ∙ ap (λ (b : Bool). b && fits (e + 1) n) (sym (q ∙ ap₂ (allIn (rowBelow changes (recordRows log e))) x y))
 
@@ -128,7 +135,8 @@ module _ (c log changes : List ℕ) (r : recordsFit c log ≡ true) where
       (λ e. and-both sets rows
       (all-of (λ p. setBelow (changeSet changes p) (valuesIn c)) (changesIn c)
       (λ p l. lt-below (changeSet changes p) (valuesIn c) (change-now c log changes r e p l .set-low)))
-      (all-of (recordRowsFit log changes) (stampIn c) (λ k l. record-of log changes k (λ p m n. each-change c log changes e k p l m n .row-low))))
+      (all-of (recordRowsFit log changes) (stampIn c)
+      (λ k l. record-of log changes k (λ p m n. each-change c log changes e k p l m n .row-low))))
       (λ e. changes-made c log changes
       (λ k p l m n. record {
         row-low = record-at log changes k (all-at (recordRowsFit log changes) (stampIn c) (both sets rows e .1) k l) p m n;
@@ -137,7 +145,8 @@ module _ (c log changes : List ℕ) (r : recordsFit c log ≡ true) where
 
 -- ---- what the code asks, with the numbers that it copied
 
-pub rising : (clock log : List ℕ) (c : Clock) (n : ℕ) → clockFits clock ≡ true → recordsFit clock log ≡ true → c ≡ clockIn clock → n ≡ c .stamp .0 → Rising log n
+pub rising : (clock log : List ℕ) (c : Clock) (n : ℕ) → clockFits clock ≡ true → recordsFit clock log ≡ true → c ≡ clockIn clock
+    → n ≡ c .stamp .0 → Rising log n
 unfolding clockIn
 rising clock log c n f r e o =
     let z : n ≡ stampIn clock = o ∙ ap (λ (x : Clock). x .stamp .0) e in
@@ -163,7 +172,8 @@ module _ (clock log changes : List ℕ) (c : Clock) (u n set : ℕ) (t : Bool) (
   bad-sets h = sym (changes-split clock log changes r ∙ ap (λ (x : Bool). x && rows clock log changes r) (sym sets-are ∙ not-true t h))
 
   -- the rows of each record
-  pub each-rows : (m : ℕ) (b : Bool) → not t ≡ false → m ≡ c .stamp .0 → b ≡ allBelow (recordRowsFit log changes) m → b ≡ changesFit clock log changes
+  pub each-rows : (m : ℕ) (b : Bool) → not t ≡ false → m ≡ c .stamp .0 → b ≡ allBelow (recordRowsFit log changes) m
+      → b ≡ changesFit clock log changes
   unfolding clockIn
   each-rows m b h g p =
       p ∙ ap (allBelow (recordRowsFit log changes)) (g ∙ ap (λ (x : Clock). x .stamp .0) e)

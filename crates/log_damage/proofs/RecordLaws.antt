@@ -25,7 +25,8 @@ kindOk log i = eqb (getD log i 0) 1 || eqb (getD log i 0) 2
 
 -- a later record, whose neighbour before lies one cell before
 pub later-record : (log : List ℕ) (k n : ℕ) (kind : Bool) → 0 < k → n ≡ k → kind ≡ kindOk log (512 + k)
-    → eqb (getD log k 0) (n + 1) && kind && leb (getD log (1023 + k) 0) (getD log (1024 + k) 0) && leb (getD log (1535 + k) 0) (getD log (1536 + k) 0)
+    → eqb (getD log k 0) (n + 1) && kind && leb (getD log (1023 + k) 0) (getD log (1024 + k) 0)
+    && leb (getD log (1535 + k) 0) (getD log (1536 + k) 0)
     ≡ recordFits 0 log k
 unfolding recordFits
 later-record log zero n kind h e q = absurd (omega arith)
@@ -40,7 +41,8 @@ pub first-record : (log : List ℕ) (first n : ℕ) (kind : Bool) → kind ≡ k
 unfolding recordFits
 first-record log first n kind q =
     ap (λ (t : Bool). eqb n 0 || t)
-    (ap (λ (t : Bool). eqb (getD log 0 0) 1 && t && leb first (getD log 1024 0)) q ∙ sym (and-true (eqb (getD log 0 0) 1 && kindOk log 512 && leb first (getD log 1024 0)))
+    (ap (λ (t : Bool). eqb (getD log 0 0) 1 && t && leb first (getD log 1024 0)) q
+    ∙ sym (and-true (eqb (getD log 0 0) 1 && kindOk log 512 && leb first (getD log 1024 0)))
     ∙ ap (λ (t : Bool). eqb (getD log 0 0) 1 && kindOk log 512 && leb first (getD log 1024 0) && t) (sym (leb·zero (getD log 1536 0))))
 
 -- all of them

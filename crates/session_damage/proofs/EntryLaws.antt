@@ -21,7 +21,8 @@ use Rattle.tables.proofs.Tests.{told, made, not-so, found-false}
 use Rattle.session_damage.proofs.OnceLaws.{once-few}
 
 -- a list whose rows and targets, each gathered in one number, are 0
-pub zero-gathered : (at to : List ℕ) (i rows targets : ℕ) → rows ≡ orBelow (λ j. getD at j 0) i → targets ≡ orBelow (λ j. getD to j 0) i → i ≤ 32 → 32 ≤ i
+pub zero-gathered : (at to : List ℕ) (i rows targets : ℕ) → rows ≡ orBelow (λ j. getD at j 0) i → targets ≡ orBelow (λ j. getD to j 0) i
+    → i ≤ 32 → 32 ≤ i
     → eqb rows 0 && eqb targets 0 ≡ allBelow (zeroAt at to) 32
 unfolding zeroAt
 zero-gathered at to i rows targets p q h l =
@@ -69,7 +70,9 @@ module _ (at to : List ℕ) (count rows values : ℕ) where
     listed-is = q ∙ ap (allBelow (listed values rows at to)) e
 
     pub bad-entry : not b ≡ true → false ≡ entriesFit at to count rows values
-    bad-entry h = not-so (entriesFit at to count rows values) (λ z. found-false b (allBelow (listed values rows at to) count) listed-is h (entries-facts z .all-listed))
+    bad-entry h =
+        not-so (entriesFit at to count rows values)
+        (λ z. found-false b (allBelow (listed values rows at to) count) listed-is h (entries-facts z .all-listed))
 
     -- rows below 2,048, as a vector of rows needs
     pub rows-in-vector : rows ≤ 2048 → not b ≡ false → RowsLow at n

@@ -65,13 +65,15 @@ module _ (x : Session) (log : List ℕ) (c : Clock) where
   unfolding sessionJudged
   free-judged b n e =
       let o : opens ≡ false = sym (not-so opens (λ z. n (open-tests (c .values .0) (c .first .0) (c .stamp .0) log x z .live-one))) in
-      e ∙ sym (or-false (allZero x)) ∙ ap (λ (t : Bool). allZero x || t) (sym (ap (λ (t : Bool). judgeable x log c && t) o ∙ and-false (judgeable x log c)))
+      e ∙ sym (or-false (allZero x))
+      ∙ ap (λ (t : Bool). allZero x || t) (sym (ap (λ (t : Bool). judgeable x log c && t) o ∙ and-false (judgeable x log c)))
 
   -- of an open one both tests hold
   judged-open : sessionJudged x log c ≡ true → x .live ≡ 1 → (judgeable x log c ≡ true) × (opens ≡ true)
   unfolding sessionJudged
   judged-open e h =
-      ⊎-elim (λ (z : allZero x ≡ true). absurd (omega (arith, zero-facts x z .live-zero))) (λ (z : judgeable x log c && opens ≡ true). both (judgeable x log c) opens z)
+      ⊎-elim (λ (z : allZero x ≡ true). absurd (omega (arith, zero-facts x z .live-zero)))
+      (λ (z : judgeable x log c && opens ≡ true). both (judgeable x log c) opens z)
       (either (allZero x) (judgeable x log c && opens) e)
 
   open-judged : judgeable x log c ≡ true → opens ≡ true → sessionJudged x log c ≡ true
@@ -90,7 +92,8 @@ module _ (x : Session) (log : List ℕ) (c : Clock) where
     pub bad-start : not b ≡ true → false ≡ sessionJudged x log c
     bad-start n = not-so (sessionJudged x log c) (λ z. found-false b (startFits (x .start .0) (x .rows .0) log c) e n (start-of z))
 
-    pub entries-decide : (r : Bool) → not b ≡ false → r ≡ entriesFit (x .at) (x .to) (x .count) (x .rows .0) (c .values .0) → r ≡ sessionJudged x log c
+    pub entries-decide : (r : Bool) → not b ≡ false → r ≡ entriesFit (x .at) (x .to) (x .count) (x .rows .0) (c .values .0)
+        → r ≡ sessionJudged x log c
     entries-decide r n q =
         same-truth r (sessionJudged x log c)
         (λ z. let s = start-facts (x .start .0) (x .rows .0) log c (sym e ∙ not-false b n) in

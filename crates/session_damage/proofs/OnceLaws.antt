@@ -29,7 +29,9 @@ pub seen-none : (at : List ℕ) → Seen at 0 (replicate 32 0)
 unfolding bitAt
 seen-none at = record {
   words = length-replicate {A = ℕ} 32 0;
-  rows = λ r h. ap (λ (w : ℕ). not (bit w (r % 64))) (getD-replicate 32 (r / 64) 0 0 (omega arith)) ∙ ap not (bit-of-zero (r % 64)) ∙ sym (all-none (other at r));
+  rows =
+      λ r h. ap (λ (w : ℕ). not (bit w (r % 64))) (getD-replicate 32 (r / 64) 0 0 (omega arith)) ∙ ap not (bit-of-zero (r % 64))
+      ∙ sym (all-none (other at r));
 }
 
 module _ (at : List ℕ) (i : ℕ) (seen : List ℕ) (s : Seen at i seen) where
@@ -38,7 +40,8 @@ module _ (at : List ℕ) (i : ℕ) (seen : List ℕ) (s : Seen at i seen) where
   seen-insert e = record {
     words = s .words;
     rows = λ r h. s .rows r h ∙ sym (and-true (allBelow (other at r) i))
-        ∙ ap (λ (t : Bool). allBelow (other at r) i && not t) (sym (ne-eqb (getD at i 0) r (λ z. omega arith))) ∙ sym (all-more (other at r) i);
+        ∙ ap (λ (t : Bool). allBelow (other at r) i && not t) (sym (ne-eqb (getD at i 0) r (λ z. omega arith)))
+        ∙ sym (all-more (other at r) i);
   }
 
   -- an entry's row is set
@@ -46,7 +49,8 @@ module _ (at : List ℕ) (i : ℕ) (seen : List ℕ) (s : Seen at i seen) where
   seen-row row next e l p = record {
     words = ap length p ∙ length-put seen row true ∙ s .words;
     rows = λ r h. ap (λ (ws : List ℕ). not (bitAt ws r)) p ∙ ap not (bitAt-put true seen row (omega (arith, s .words)) r)
-        ∙ turn (eqb row r) (bitAt seen r) ∙ ap₂ (λ (x y : Bool). x && y) (s .rows r h) (ap (λ (x : ℕ). not (eqb x r)) e) ∙ sym (all-more (other at r) i);
+        ∙ turn (eqb row r) (bitAt seen r) ∙ ap₂ (λ (x y : Bool). x && y) (s .rows r h) (ap (λ (x : ℕ). not (eqb x r)) e)
+        ∙ sym (all-more (other at r) i);
   }
     where
       turn : (x y : Bool) → not (cond x true y) ≡ not y && not x
@@ -102,4 +106,5 @@ unfolding onceIn
 once-few at n h =
     all-of (onceIn at) n
     (λ i l. let z : i ≡ 0 = omega arith in
-    ap (onceIn at) z ∙ ap (λ (t : Bool). eqb (getD at 0 0) 65535 || t) (all-none (other at (getD at 0 0))) ∙ or-true (eqb (getD at 0 0) 65535))
+    ap (onceIn at) z ∙ ap (λ (t : Bool). eqb (getD at 0 0) 65535 || t) (all-none (other at (getD at 0 0)))
+    ∙ or-true (eqb (getD at 0 0) 65535))

@@ -35,7 +35,8 @@ module _ (start rows : ℕ) (log : List ℕ) (c : Clock) where
   short-log h = not-so (startFits start rows log c) (λ e. omega (arith, start-facts e .log-room))
 
   -- the row count of that moment
-  pub known-start : (r : ℕ) → start ≤ c .stamp .0 → start ≤ 512 → 2048 ≤ length log → r ≡ rowsAt (c .first .0) log start → eqb rows r ≡ startFits start rows log c
+  pub known-start : (r : ℕ) → start ≤ c .stamp .0 → start ≤ 512 → 2048 ≤ length log → r ≡ rowsAt (c .first .0) log start
+      → eqb rows r ≡ startFits start rows log c
   unfolding startFits
   known-start r h l m e = ap (eqb rows) e ∙ ap (λ (t : Bool). t && eqb rows (rowsAt (c .first .0) log start)) (sym three)
     where

@@ -23,11 +23,13 @@ module _ (clock : List ℕ) (f : clockFits clock ≡ true) where
 
   pub low-stamp : (c : Clock) → c ≡ clockIn clock → c .stamp .0 ≤ 512
   unfolding clockIn
-  low-stamp c e = let z : c .stamp .0 ≡ stampIn clock = ap (λ (x : Clock). x .stamp .0) e in omega (arith, clock-limits clock f .few-records)
+  low-stamp c e =
+      let z : c .stamp .0 ≡ stampIn clock = ap (λ (x : Clock). x .stamp .0) e in omega (arith, clock-limits clock f .few-records)
 
   pub low-records : (c : Clock) (n : ℕ) → c ≡ clockIn clock → n ≡ c .stamp .0 → n ≤ 512
   low-records c n e g = omega (arith, low-stamp c e)
 
   pub low-first-slots : (c : Clock) (n : ℕ) → c ≡ clockIn clock → n ≡ c .values .0 → n ≤ 96
   unfolding clockIn
-  low-first-slots c n e g = let z : c .values .0 ≡ valuesIn clock = ap (λ (x : Clock). x .values .0) e in omega (arith, clock-limits clock f .few-values)
+  low-first-slots c n e g =
+      let z : c .values .0 ≡ valuesIn clock = ap (λ (x : Clock). x .values .0) e in omega (arith, clock-limits clock f .few-values)

@@ -8,7 +8,7 @@ use Prim.Native.Nat.{ℕ, zero, suc, _+_, _-_, _^_, _≤_, _<_}
 use native.Mathlib.Nat.{eq-or-lt-of-le, le-of-suc-le-suc}
 use native.Mathlib.Numerals.{add-one}
 use native.Mathlib.Omega.{arith}
-use borrow.Author.Tests.{leb-true, le-leb, eqb-true, eq-eqb, ltb-true, lt-ltb}
+use borrow.Author.Tests.{eqb-true, eq-eqb}
 use lib.Dec.{eqb}
 use lib.ListN.{length}
 use Rattle.bits.specs.Cases.{lt-cases}
@@ -17,7 +17,7 @@ use Rattle.rules.specs.Limits.{maxValues, maxRows, maxSlots, maxRecords, maxCha
 use Rattle.tables.specs.Cells.{Tables, valuesIn, firstIn, stampIn, rowsIn, slotsIn, changesIn, recordStamp, recordKind, recordRows, recordEnd, rowsAt, endAt, changeRow, changeSet}
 use Rattle.tables.specs.Room.{roomFor, roomy, Roomy}
 use Rattle.tables.specs.Damage.{clockFits, recordFits, recordsFit, allIn, changeFits, recordChangesFit, changesFit, slotsFit, headsFit, vectorsFit, sessionsFit, sound}
-use Rattle.tables.proofs.Tests.{told, made, both, and-both, either, or-left, or-right}
+use Rattle.tables.proofs.Tests.{told, made, either, or-left, or-right}
 
 -- ---- room
 
@@ -153,7 +153,8 @@ module _ (c log : List ℕ) where
   records-made h p q = search (made, all-of, record-made) depth 12
 
 module _ (c log : List ℕ) (e : recordsFit c log ≡ true) where
-  three : (allBelow (recordFits (firstIn c) log) (stampIn c) ≡ true) × (endAt log (stampIn c) ≡ changesIn c) × (rowsAt (firstIn c) log (stampIn c) ≡ rowsIn c)
+  three : (allBelow (recordFits (firstIn c) log) (stampIn c) ≡ true) × (endAt log (stampIn c) ≡ changesIn c)
+      × (rowsAt (firstIn c) log (stampIn c) ≡ rowsIn c)
   unfolding recordsFit
   three = search told depth 12
 
@@ -215,15 +216,18 @@ module _ (c log changes : List ℕ) where
   each-change e k p l m n =
       let rows = rowsAt (firstIn c) log (suc k) in
       change-facts changes (valuesIn c) rows p
-      (in-at (changeFits changes (valuesIn c) rows) (endAt log k) (endAt log (suc k)) (all-at (recordChangesFit c log changes) (stampIn c) e k l) p m n)
+      (in-at (changeFits changes (valuesIn c) rows) (endAt log k) (endAt log (suc k))
+      (all-at (recordChangesFit c log changes) (stampIn c) e k l) p m n)
 
-  pub changes-made : ((k p : ℕ) → k < stampIn c → endAt log k ≤ p → p < endAt log (suc k) → ChangeFacts changes (valuesIn c) (rowsAt (firstIn c) log (suc k)) p)
+  pub changes-made : ((k p : ℕ) → k < stampIn c → endAt log k ≤ p → p < endAt log (suc k)
+      → ChangeFacts changes (valuesIn c) (rowsAt (firstIn c) log (suc k)) p)
       → changesFit c log changes ≡ true
   unfolding changesFit recordChangesFit
   changes-made h =
       all-of (recordChangesFit c log changes) (stampIn c)
       (λ k l. let rows = rowsAt (firstIn c) log (suc k) in
-      in-of (changeFits changes (valuesIn c) rows) (endAt log k) (endAt log (suc k)) (λ p m n. change-made changes (valuesIn c) rows p (h k p l m n)))
+      in-of (changeFits changes (valuesIn c) rows) (endAt log k) (endAt log (suc k))
+      (λ p m n. change-made changes (valuesIn c) rows p (h k p l m n)))
 
   -- each change of records 1 to s
   pub change-at : recordsFit c log ≡ true → changesFit c log changes ≡ true → (s p : ℕ) → s ≤ stampIn c → p < endAt log s
@@ -237,7 +241,8 @@ module _ (c log changes : List ℕ) where
       go (inr k) ih = each-change e s p l k h
 
   -- each change of the table
-  pub change-now : recordsFit c log ≡ true → changesFit c log changes ≡ true → (p : ℕ) → p < changesIn c → ChangeFacts changes (valuesIn c) (rowsIn c) p
+  pub change-now : recordsFit c log ≡ true → changesFit c log changes ≡ true → (p : ℕ) → p < changesIn c
+      → ChangeFacts changes (valuesIn c) (rowsIn c) p
   change-now r e p h =
       let f = change-at r e (stampIn c) p (omega arith) (omega (arith, last-end c log r)) in
       record { row-low = omega (arith, f .row-low, last-rows c log r); set-low = f .set-low }

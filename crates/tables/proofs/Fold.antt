@@ -22,14 +22,18 @@ module _ (p : ℕ → Bool) where
   -- every place below n is every place from 0 on
   pub below-in : (n : ℕ) → allBelow p n ≡ allIn p 0 n
   unfolding allIn
-  below-in n = let z : n - 0 ≡ n = omega arith in all-ext p (λ k. p (0 + k)) n (λ i l. ap p (sym (zero-add i))) ∙ ap (allBelow (λ k. p (0 + k))) (sym z)
+  below-in n =
+      let z : n - 0 ≡ n = omega arith in all-ext p (λ k. p (0 + k)) n (λ i l. ap p (sym (zero-add i)))
+      ∙ ap (allBelow (λ k. p (0 + k))) (sym z)
 
   -- a stretch cut in two
   pub in-join : (a b c : ℕ) → a ≤ b → b ≤ c → allIn p a c ≡ allIn p a b && allIn p b c
   in-join a b c h l =
       same-truth (allIn p a c) (allIn p a b && allIn p b c)
-      (λ e. and-both (allIn p a b) (allIn p b c) (in-of p a b (λ j m n. in-at p a c e j m (omega arith))) (in-of p b c (λ j m n. in-at p a c e j (omega arith) n)))
-      (λ e. in-of p a c (λ j m n. side j m n (both (allIn p a b) (allIn p b c) e .0) (both (allIn p a b) (allIn p b c) e .1) (lt-cases j b)))
+      (λ e. and-both (allIn p a b) (allIn p b c) (in-of p a b (λ j m n. in-at p a c e j m (omega arith)))
+      (in-of p b c (λ j m n. in-at p a c e j (omega arith) n)))
+      (λ e. in-of p a c
+      (λ j m n. side j m n (both (allIn p a b) (allIn p b c) e .0) (both (allIn p a b) (allIn p b c) e .1) (lt-cases j b)))
     where
       side : (j : ℕ) → a ≤ j → j < c → allIn p a b ≡ true → allIn p b c ≡ true → (j < b) ⊎ (b ≤ j) → p j ≡ true
       side j m n x y (inl k) = in-at p a b x j m k
@@ -48,7 +52,8 @@ module _ (p : ℕ → Bool) where
   pub below-front : (n : ℕ) → allBelow p n ≡ (eqb n 0 || p 0) && allIn p 1 n
   below-front zero = all-none p ∙ sym (in-none 1 0 (omega arith))
   below-front (suc n) =
-      below-in (suc n) ∙ in-front 0 (suc n) (omega arith) ∙ ap (λ (t : Bool). (t || p 0) && allIn p 1 (suc n)) (sym (ne-eqb (suc n) 0 (λ e. omega arith)))
+      below-in (suc n) ∙ in-front 0 (suc n) (omega arith)
+      ∙ ap (λ (t : Bool). (t || p 0) && allIn p 1 (suc n)) (sym (ne-eqb (suc n) 0 (λ e. omega arith)))
 
   -- ---- a fold that carries what it found so far
 

@@ -6,7 +6,7 @@ use mathlib.Core.List.{List}
 use mathlib.Core.Logic.{_⊎_, inl, inr, ⊎-elim}
 use Prim.Native.Nat.{ℕ, _≤_, _<_}
 use native.Mathlib.Omega.{arith}
-use borrow.Author.Tests.{leb-true, le-leb, eqb-true, eqb-false, eq-eqb, ne-eqb, ltb-true, lt-ltb, not-true}
+use borrow.Author.Tests.{eqb-true, eqb-false, eq-eqb, ne-eqb, ltb-true, lt-ltb, not-true}
 use lib.Dec.{eqb, ltb}
 use lib.ListN.{length, getD, getD-replicate}
 use Rattle.bits.specs.Cases.{eq-cases}
@@ -174,7 +174,8 @@ module _ (c log : List ℕ) (sessions : List Session) where
   open-at e i l = session-open (valuesIn c) (firstIn c) (stampIn c) log (sessionAt sessions i) (each-session e i l)
 
 -- its row count is at most the current one, and so no row of an open session is the cell of an insert
-module _ (c log : List ℕ) (p : clockFits c ≡ true) (q : recordsFit c log ≡ true) (x : Session) (f : OpenFacts (valuesIn c) (firstIn c) (stampIn c) log x) where
+module _ (c log : List ℕ) (p : clockFits c ≡ true) (q : recordsFit c log ≡ true) (x : Session)
+    (f : OpenFacts (valuesIn c) (firstIn c) (stampIn c) log x) where
   pub open-rows : x .rows .0 ≤ rowsIn c
   open-rows = omega (arith, f .rows-then, rows-high-at c log q (x .start .0) (f .start-old))
 

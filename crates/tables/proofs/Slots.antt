@@ -1,13 +1,13 @@
 -- What slots, heads and vectors that are not damaged have, as facts on numbers.
 -- Assumes nothing.
 use mathlib.Core.Path.{_≡_, sym, ap, _∙_, subst}
-use mathlib.Core.Bool.{Bool, true, false, not, cond}
+use mathlib.Core.Bool.{true, false, not}
 use mathlib.Core.List.{List}
 use mathlib.Core.Logic.{⊎-elim}
 use Prim.Native.Nat.{ℕ, _+_, _-_, _*_, _^_, _≤_, _<_}
 use native.Mathlib.Nat.{pos-of-ne-zero}
 use native.Mathlib.Omega.{arith}
-use borrow.Author.Tests.{leb-true, le-leb, eqb-true, eqb-false, eq-eqb, ne-eqb, ltb-true, lt-ltb, le-ltb, not-true}
+use borrow.Author.Tests.{eqb-false, ne-eqb, lt-ltb, le-ltb, not-true}
 use lib.Dec.{eqb, lit<}
 use lib.ListN.{length, take, drop, length-take, length-drop, List·getD-eq-default}
 use lib.Seq.{getD-take, getD-drop}
@@ -170,14 +170,16 @@ length-slotWords words i h room = part-length 32 (32 * i) words (omega arith)
 part-words : (n a : ℕ) (l : List ℕ) → Words l → Words (take n (drop a l))
 part-words n a l w i =
     ⊎-elim (λ (h : i < n). subst (λ (x : ℕ). x < 2 ^ 64) (sym (getD-take n (drop a l) i 0 h ∙ getD-drop a l i 0)) (w (a + i)))
-    (λ (h : n ≤ i). subst (λ (x : ℕ). x < 2 ^ 64) (sym (List·getD-eq-default (take n (drop a l)) 0 (omega (arith, length-take n (drop a l))))) (lit< tt)) (lt-cases i n)
+    (λ (h : n ≤ i). subst (λ (x : ℕ). x < 2 ^ 64)
+    (sym (List·getD-eq-default (take n (drop a l)) 0 (omega (arith, length-take n (drop a l))))) (lit< tt)) (lt-cases i n)
 
 pub words-slotWords : (words : List ℕ) (i : ℕ) → Words words → Words (slotWords words i)
 unfolding slotWords
 words-slotWords words i w = part-words 32 (32 * i) words w
 
 module _ (c log slots words : List ℕ) where
-  pub each-vector : vectorsFit c log slots words ≡ true → (i : ℕ) → i < slotsIn c → tailClear (slotWords words i) (rowsAt (firstIn c) log (slotStamp slots i)) ≡ true
+  pub each-vector : vectorsFit c log slots words ≡ true → (i : ℕ) → i < slotsIn c
+      → tailClear (slotWords words i) (rowsAt (firstIn c) log (slotStamp slots i)) ≡ true
   unfolding vectorsFit vectorFits
   each-vector e i l = all-at (vectorFits (firstIn c) log slots words) (slotsIn c) e i l
 

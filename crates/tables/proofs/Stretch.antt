@@ -49,7 +49,8 @@ module _ {A : Type 0} where
   stretch-join f a b zero p q = let e : b ≡ 0 = omega arith in rw (e, stretch-none f 0 0 (omega arith), append-nil)
   stretch-join f a b (suc c) p q = go (eq-or-lt-of-le q) (λ h. stretch-join f a b c p h)
     where
-      go : (b ≡ suc c) ⊎ (b < suc c) → (b ≤ c → stretch f a b ++ stretch f b c ≡ stretch f a c) → stretch f a b ++ stretch f b (suc c) ≡ stretch f a (suc c)
+      go : (b ≡ suc c) ⊎ (b < suc c) → (b ≤ c → stretch f a b ++ stretch f b c ≡ stretch f a c)
+          → stretch f a b ++ stretch f b (suc c) ≡ stretch f a (suc c)
       go (inl e) ih = rw (stretch-none f b (suc c) (omega arith), append-nil, e)
       go (inr l) ih =
           rw (
@@ -90,5 +91,6 @@ module _ {A : Type 0} where
       at : (k : ℕ) → k < n → getD (tab g n) k d ≡ getD (set (tab f n) i (g i)) k d
       at k m =
           getD-tab g n k d m
-          ∙ ⊎-elim (λ (e : k ≡ i). ap g e ∙ sym (ap (λ (j : ℕ). getD (set (tab f n) i (g i)) j d) e ∙ getD-set-same (tab f n) i (g i) d (omega (arith, length-tab f n))))
+          ∙ ⊎-elim (λ (e : k ≡ i). ap g e
+          ∙ sym (ap (λ (j : ℕ). getD (set (tab f n) i (g i)) j d) e ∙ getD-set-same (tab f n) i (g i) d (omega (arith, length-tab f n))))
           (λ (q : k ≡ i → ⊥). h k m q ∙ sym (getD-set-other (tab f n) i k (g i) d q ∙ getD-tab f n k d m)) (eq-cases k i)

@@ -4,8 +4,8 @@ use crate::counts::Row;
 use crate::counts::Stamp;
 use crate::counts::Value;
 ghost use mathlib.Core.Path.{_≡_};
-ghost use Prim.Native.Nat.{_+_, _*_, _<_, _≤_};
-ghost use lib.ListN.{length, getD, set};
+ghost use Prim.Native.Nat.{_+_, _<_, _≤_};
+ghost use lib.ListN.{length, set};
 ghost use Rattle.tables.specs.Cells.{slotStamp, slotLink, headOf, endAt, rowsAt, changeRow, changeSet};
 ghost use Rattle.tables.specs.Stores.{putSlot, putHead, putRecord, putChange};
 

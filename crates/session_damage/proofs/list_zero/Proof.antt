@@ -10,7 +10,8 @@ use Rattle.session_damage.proofs.list_zero.Statement.{statement}
 use Rattle.session_damage.proofs.list_zero.Tie as tie
 
 abbrev Inv-loop : tie.InvT-loop
-Inv-loop at to rows₀ targets₀ i₀ rows targets i = (i ≤ 32) × (rows ≡ orBelow (λ j. getD at j 0) i) × (targets ≡ orBelow (λ j. getD to j 0) i)
+Inv-loop at to rows₀ targets₀ i₀ rows targets i =
+    (i ≤ 32) × (rows ≡ orBelow (λ j. getD at j 0) i) × (targets ≡ orBelow (λ j. getD to j 0) i)
 
 abbrev μ-loop : tie.MeasureT-loop
 μ-loop at to rows₀ targets₀ i₀ rows targets i = 32 - i

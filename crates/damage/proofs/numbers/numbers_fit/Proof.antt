@@ -8,7 +8,8 @@ use Rattle.damage.proofs.numbers.numbers_fit.Statement.{statement}
 use Rattle.damage.proofs.numbers.numbers_fit.Tie as tie
 
 changes-fit-requires : tie.Need-changes-fit-requires
-changes-fit-requires c κs = ((omega arith, omega arith, omega arith), (search found-true, found-true _ _ (c .before .records-fit .ensures) (c .if2 .left)))
+changes-fit-requires c κs =
+    ((omega arith, omega arith, omega arith), (search found-true, found-true _ _ (c .before .records-fit .ensures) (c .if2 .left)))
 
 heads-fit-requires : tie.Need-heads-fit-requires
 heads-fit-requires c κs = (omega arith, omega arith, omega arith, search found-true)

@@ -12,7 +12,8 @@ use Rattle.damage.proofs.slots.heads_fit.Statement.{statement}
 use Rattle.damage.proofs.slots.heads_fit.Tie as tie
 
 abbrev Inv-loop : tie.InvT-loop
-Inv-loop clock slots heads values used v₀ v = (values ≤ 32) × (used ≤ 96) × (headsFit clock slots heads ≡ allIn (headFits used slots heads) v values)
+Inv-loop clock slots heads values used v₀ v =
+    (values ≤ 32) × (used ≤ 96) × (headsFit clock slots heads ≡ allIn (headFits used slots heads) v values)
 
 abbrev μ-loop : tie.MeasureT-loop
 μ-loop clock slots heads values used v₀ v = values - v

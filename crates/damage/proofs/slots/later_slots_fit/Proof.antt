@@ -11,7 +11,8 @@ use Rattle.damage.proofs.slots.later_slots_fit.Statement.{statement}
 use Rattle.damage.proofs.slots.later_slots_fit.Tie as tie
 
 abbrev Inv-loop : tie.InvT-loop
-Inv-loop slots values last used i₀ i = allIn (laterSlotFits (values .0) (last .0) slots) (values .0) used ≡ allIn (laterSlotFits (values .0) (last .0) slots) i used
+Inv-loop slots values last used i₀ i =
+    allIn (laterSlotFits (values .0) (last .0) slots) (values .0) used ≡ allIn (laterSlotFits (values .0) (last .0) slots) i used
 
 abbrev μ-loop : tie.MeasureT-loop
 μ-loop slots values last used i₀ i = used - i

@@ -11,7 +11,8 @@ use Rattle.damage.proofs.vectors.each_vector_fits.Statement.{statement}
 use Rattle.damage.proofs.vectors.each_vector_fits.Tie as tie
 
 abbrev Inv-loop : tie.InvT-loop
-Inv-loop log slots words first n i₀ i = allBelow (vectorFits (first .0) log slots words) n ≡ allIn (vectorFits (first .0) log slots words) i n
+Inv-loop log slots words first n i₀ i =
+    allBelow (vectorFits (first .0) log slots words) n ≡ allIn (vectorFits (first .0) log slots words) i n
 
 abbrev μ-loop : tie.MeasureT-loop
 μ-loop log slots words first n i₀ i = n - i
