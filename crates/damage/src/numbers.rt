@@ -23,10 +23,10 @@ pub fn numbers_fit(
     if !clock::clock_fits(clock) {
         return false;
     }
-    if !log_damage::records_fit(clock, log) {
+    if !record_damage::records_fit(clock, log) {
         return false;
     }
-    if !log_damage::changes_fit(clock, log, changes) {
+    if !change_damage::changes_fit(clock, log, changes) {
         return false;
     }
     if !slots::slots_fit(clock, slots) {

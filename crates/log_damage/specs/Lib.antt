@@ -1,3 +1,0 @@
--- What the contracts of the judgement of records and changes cite.
--- Assumes nothing.
-pub mod Parts
