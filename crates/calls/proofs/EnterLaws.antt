@@ -16,9 +16,9 @@ use Rattle.tables.specs.declared.refusal.Refusal.{Refusal}
 use Rattle.tables.specs.Cells.{stampIn}
 use Rattle.tables.specs.Clock.{clockIn}
 use Rattle.tables.specs.Refusals.{numberOf}
-use Rattle.damage.specs.Room.{roomFor, Roomy}
+use Rattle.tables.specs.Room.{roomFor, Roomy}
 use Rattle.damage.specs.Numbers.{numbersFit}
-use Rattle.damage.proofs.RoomLaws.{room-lengths}
+use Rattle.tables.proofs.Facts.{room-lengths}
 use Rattle.lent.specs.declared.seats.Seat.{Seat}
 use Rattle.calls.specs.declared.enter.Test.the-variants.{Passed, No}
 use Rattle.calls.specs.Enter.{whyOf, enteredBy, placedBy, shut, inReach, strange, unknown, openedBy, valuedBy}

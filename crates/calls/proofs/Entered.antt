@@ -26,14 +26,13 @@ use Rattle.tables.specs.declared.refusal.Refusal.{Refusal}
 use Rattle.tables.specs.Room.{roomy}
 use Rattle.tables.specs.Damage.{sound, sessionFits}
 use Rattle.tables.proofs.Tests.{both, and-both}
-use Rattle.tables.proofs.Facts.{room-facts, room-made, parts, whole}
+use Rattle.tables.proofs.Facts.{room-facts, room-made, room-is, room-lengths, parts, whole}
 use Rattle.tables.proofs.Sessions.{OpenFacts, freed-zero, session-made, sessions-made, open-at, open-rows-few}
 use Rattle.tables.proofs.Means.{values-means, session-means, session-past, isFree-means, free-means, startOf-means, rowsOf-means}
 use Rattle.tables.proofs.Means.{listOf-means}
-use Rattle.damage.specs.Room.{roomFor}
+use Rattle.tables.specs.Room.{roomFor}
 use Rattle.damage.specs.Numbers.{numbersFit}
-use Rattle.damage.specs.Judged.{sessionsJudged}
-use Rattle.damage.proofs.RoomLaws.{room-is, room-lengths}
+use Rattle.session_damage.specs.Judged.{sessionsJudged}
 use Rattle.damage.proofs.NumberLaws.{number-parts}
 use Rattle.damage.proofs.SoundLaws.{judged-sound-lent}
 use Rattle.lent.specs.Places.{seatAt}

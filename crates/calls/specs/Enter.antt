@@ -8,7 +8,7 @@ use lib.Dec.{eqb, leb}
 use Rattle.rules.specs.Refusals.{Test, firstOf, noSession}
 use Rattle.tables.specs.Cells.{valuesIn, stampIn}
 use Rattle.tables.specs.Refusals.{numberOf}
-use Rattle.damage.specs.Room.{roomFor}
+use Rattle.tables.specs.Room.{roomFor}
 use Rattle.damage.specs.Numbers.{numbersFit}
 use Rattle.lent.specs.declared.seats.Seat.{Seat}
 use Rattle.calls.specs.declared.enter.Test as asked

@@ -29,8 +29,8 @@ use Rattle.tables.specs.declared.refusal.Refusal.the-variants.{NoRoom, BadColum
 use Rattle.tables.specs.Cells.{Tables, tables}
 use Rattle.tables.specs.Stores.{putClock}
 use Rattle.tables.specs.Refusals.{numberOf}
-use Rattle.damage.specs.Room.{roomFor}
-use Rattle.damage.proofs.RoomLaws.{room-is, room-lengths}
+use Rattle.tables.specs.Room.{roomFor}
+use Rattle.tables.proofs.Facts.{room-is, room-lengths}
 use Rattle.lent.specs.Places.{allFreed}
 use Rattle.calls.specs.declared.answers.Answer.{Answer}
 use Rattle.calls.specs.declared.answers.Answer.the-variants.{Count}

@@ -6,7 +6,7 @@ use Prim.Native.Nat.{ℕ, _≤_}
 use lib.ListN.{length}
 use Rattle.tables.specs.declared.session.Session.{Session}
 use Rattle.tables.specs.Cells.{Tables}
-use Rattle.damage.specs.Room.{Roomy}
+use Rattle.tables.specs.Room.{Roomy}
 use Rattle.lent.specs.Places.{freedAll}
 use Rattle.calls.specs.declared.answers.Answer.{Answer}
 use Rattle.calls.specs.declared.answers.Answer.the-variants.{Count}

@@ -1,11 +1,11 @@
 -- The slots below C and the later ones, and a link that is looked at a step at a time.
 -- Assumes nothing.
 use mathlib.Core.Path.{_≡_, refl, sym, ap, ap₂, _∙_}
-use mathlib.Core.Bool.{Bool, true, false, not, _&&_, cond, and-false}
+use mathlib.Core.Bool.{Bool, true, false, not, _&&_, cond}
 use mathlib.Core.List.{List}
 use Prim.Native.Nat.{ℕ, _+_, _-_, _≤_, _<_}
 use native.Mathlib.Omega.{arith}
-use borrow.Author.Tests.{eq-eqb, ne-eqb, le-leb, lt-leb, lt-ltb, le-ltb}
+use borrow.Author.Tests.{eq-eqb, ne-eqb, le-leb, lt-ltb, le-ltb}
 use lib.Dec.{leb, eqb, ltb}
 use lib.ListN.{getD}
 use Rattle.bits.specs.All.{allBelow}
@@ -13,9 +13,10 @@ use Rattle.tables.specs.declared.clock.Clock.{Clock}
 use Rattle.tables.specs.Cells.{valuesIn, stampIn, slotsIn, slotValue, slotStamp, slotLink, headOf}
 use Rattle.tables.specs.Clock.{clockIn}
 use Rattle.tables.specs.Damage.{allIn, clockFits, firstSlotFits, laterSlotFits, slotFits, slotsFit, headFits, headsFit}
+use Rattle.tables.proofs.Tests.{told, not-so}
 use Rattle.tables.proofs.Facts.{clock-facts}
 use Rattle.damage.specs.Parts.{linkFits}
-use Rattle.damage.proofs.Fold.{below-in, in-join, in-ext}
+use Rattle.tables.proofs.Fold.{below-in, in-join, in-ext}
 
 -- a slot below C, whose number the code has under another name
 pub first-slot : (slots : List ℕ) (i n : ℕ) → n ≡ i
@@ -25,10 +26,7 @@ first-slot slots i n e = ap (λ (x : ℕ). eqb (getD slots i 0) x && eqb (getD s
 
 -- ---- a link
 
--- four tests: the second fails, the first two hold, one before all
-second-fails : (a b c d : Bool) → b ≡ false → false ≡ a && b && c && d
-second-fails a b c d e = sym (ap (λ (t : Bool). a && t && c && d) e ∙ ap (λ (t : Bool). t && c && d) (and-false a))
-
+-- four tests: the first two hold, one before all
 two-hold : (a b c d : Bool) → a ≡ true → b ≡ true → c && d ≡ a && b && c && d
 two-hold a b c d p q = sym (ap₂ (λ (x y : Bool). x && y && c && d) p q)
 
@@ -51,7 +49,7 @@ module _ (slots : List ℕ) (i link : ℕ) (e : link ≡ slotLink slots i) where
   -- one that does not lead to an earlier slot
   pub late-link : i < link → false ≡ linkFits slots i
   unfolding linkFits
-  late-link h = second-fails (not (eqb (slotLink slots i) 0)) (leb (slotLink slots i) i) same older (lt-leb (slotLink slots i) i (omega arith))
+  late-link h = not-so (linkFits slots i) (λ z. let l : slotLink slots i ≤ i = search told in omega arith)
 
   -- one that does
   pub early-link : (link ≡ 0 → ⊥) → link ≤ i
@@ -59,7 +57,8 @@ module _ (slots : List ℕ) (i link : ℕ) (e : link ≡ slotLink slots i) where
   unfolding linkFits
   early-link n h =
       ap (λ (x : ℕ). eqb (slotValue slots (x - 1)) (slotValue slots i) && ltb (slotStamp slots (x - 1)) (slotStamp slots i)) e
-      ∙ two-hold (not (eqb (slotLink slots i) 0)) (leb (slotLink slots i) i) same older (ap not (ne-eqb (slotLink slots i) 0 (λ z. n (e ∙ z)))) (le-leb (slotLink slots i) i (omega arith))
+      ∙ two-hold (not (eqb (slotLink slots i) 0)) (leb (slotLink slots i) i) same older
+      (ap not (ne-eqb (slotLink slots i) 0 (λ z. n (e ∙ z)))) (le-leb (slotLink slots i) i (omega arith))
 
 -- a later slot: its value and its stamp, and its link
 pub later-slot : (values last : ℕ) (slots : List ℕ) (i : ℕ) (b : Bool) → b ≡ linkFits slots i
@@ -67,7 +66,8 @@ pub later-slot : (values last : ℕ) (slots : List ℕ) (i : ℕ) (b : Bool) →
 unfolding linkFits laterSlotFits
 later-slot values last slots i b e =
     ap (λ (t : Bool). ltb (slotValue slots i) values && leb (slotStamp slots i) last && t) e
-    ∙ one-before (ltb (slotValue slots i) values && leb (slotStamp slots i) last) (not (eqb (slotLink slots i) 0)) (leb (slotLink slots i) i)
+    ∙ one-before (ltb (slotValue slots i) values && leb (slotStamp slots i) last) (not (eqb (slotLink slots i) 0))
+    (leb (slotLink slots i) i)
     (eqb (slotValue slots (slotLink slots i - 1)) (slotValue slots i)) (ltb (slotStamp slots (slotLink slots i - 1)) (slotStamp slots i))
 
 -- ---- all slots
@@ -89,12 +89,14 @@ module _ (clock slots : List ℕ) (f : clockFits clock ≡ true) where
       below-in any (slotsIn clock)
       ∙ in-join any 0 (valuesIn clock) (slotsIn clock) (omega arith) (clock-facts clock f .slots-low)
       ∙ ap₂ (λ (x y : Bool). x && y)
-      (in-ext any (firstSlotFits slots) 0 (valuesIn clock) (λ i h l. choose i true (lt-ltb i (valuesIn clock) l)) ∙ sym (below-in (firstSlotFits slots) (valuesIn clock)))
+      (in-ext any (firstSlotFits slots) 0 (valuesIn clock) (λ i h l. choose i true (lt-ltb i (valuesIn clock) l))
+      ∙ sym (below-in (firstSlotFits slots) (valuesIn clock)))
       (in-ext any later (valuesIn clock) (slotsIn clock) (λ i h l. choose i false (le-ltb i (valuesIn clock) h)))
 
   -- what the code asks, with the numbers that it copied
   pub all-slots : (c : Clock) (v u used : ℕ) (a b : Bool) → c ≡ clockIn clock → v ≡ c .values .0 → u ≡ slotsIn clock → used ≡ u
-      → a ≡ allBelow (firstSlotFits slots) v → b ≡ allIn (laterSlotFits (c .values .0) (c .stamp .0) slots) (c .values .0) used → a && b ≡ slotsFit clock slots
+      → a ≡ allBelow (firstSlotFits slots) v → b ≡ allIn (laterSlotFits (c .values .0) (c .stamp .0) slots) (c .values .0) used
+      → a && b ≡ slotsFit clock slots
   unfolding clockIn
   all-slots c v u used a b e g h i p q =
       let x : c .values .0 ≡ valuesIn clock = ap (λ (k : Clock). k .values .0) e in
@@ -120,4 +122,5 @@ pub all-heads : (clock slots heads : List ℕ) (u used : ℕ) → u ≡ slotsIn 
     → headsFit clock slots heads ≡ allIn (headFits used slots heads) 0 (valuesIn clock)
 unfolding headsFit
 all-heads clock slots heads u used e g =
-    below-in (headFits (slotsIn clock) slots heads) (valuesIn clock) ∙ ap (λ (k : ℕ). allIn (headFits k slots heads) 0 (valuesIn clock)) (sym (g ∙ e))
+    below-in (headFits (slotsIn clock) slots heads) (valuesIn clock)
+    ∙ ap (λ (k : ℕ). allIn (headFits k slots heads) 0 (valuesIn clock)) (sym (g ∙ e))

@@ -19,8 +19,8 @@ use Rattle.tables.proofs.Access.{clock-long}
 use Rattle.tables.proofs.Facts.{room-facts, clock-limits, rows-high-at}
 use Rattle.tables.proofs.Sessions.{open-facts}
 use Rattle.damage.specs.Numbers.{numbersFit}
-use Rattle.damage.specs.Judged.{judgeable, sessionJudged, sessionsJudged}
-use Rattle.damage.proofs.JudgedLaws.{limits-made}
+use Rattle.session_damage.specs.Judged.{judgeable, sessionJudged, sessionsJudged}
+use Rattle.session_damage.proofs.JudgedLaws.{limits-made}
 use Rattle.damage.proofs.NumberLaws.{number-parts}
 
 -- a test in front of another that implies it
@@ -72,5 +72,6 @@ module _ (t : Tables) where
   -- and with the clock as it is read before the tables' lengths are known
   pub judged-sound-lent : roomy t ≡ true → fits && sessionsJudged (t .sessions) (t .log) (lentClock (t .clock)) ≡ sound t
   judged-sound-lent r =
-      ap (λ (c : Clock). fits && sessionsJudged (t .sessions) (t .log) c) (sym (clock-long (t .clock) (clockIn (t .clock)) (room-facts t r .clock-room) refl))
+      ap (λ (c : Clock). fits && sessionsJudged (t .sessions) (t .log) c)
+      (sym (clock-long (t .clock) (clockIn (t .clock)) (room-facts t r .clock-room) refl))
       ∙ judged-sound r

@@ -22,7 +22,8 @@ tail-wider : (ws : List ℕ) (a b : ℕ) → a ≤ b → tailClear ws a ≡ true
 tail-wider ws a b h e = tail-of-bits ws b (λ r l. tail-bits ws a e r (omega arith))
 
 -- vector i as the code lends it
-pub one-vector : (first : ℕ) (log slots words : List ℕ) (i s w rows : ℕ) (b : Bool) → s ≡ slotStamp slots i → w ≡ rowsAt first log s → rows ≡ w
+pub one-vector : (first : ℕ) (log slots words : List ℕ) (i s w rows : ℕ) (b : Bool) → s ≡ slotStamp slots i → w ≡ rowsAt first log s
+    → rows ≡ w
     → b ≡ tailClear (take (32 * i + 32 - 32 * i) (drop (32 * i) words)) rows → b ≡ vectorFits first log slots words i
 unfolding vectorFits slotWords part
 one-vector first log slots words i s w rows b e f g q =
@@ -42,7 +43,8 @@ stamp-low slots n i h l = h i l
 
 -- ---- all vectors, where the records and the slots are sound
 
-module _ (clock log slots words : List ℕ) (c : Clock) (u n first : ℕ) (t : Bool) (e : c ≡ clockIn clock) (o : u ≡ slotsIn clock) (m : n ≡ u) where
+module _ (clock log slots words : List ℕ) (c : Clock) (u n first : ℕ) (t : Bool) (e : c ≡ clockIn clock) (o : u ≡ slotsIn clock)
+    (m : n ≡ u) where
   -- "row counts never fall": vectors that are clear from the first row count on are clear from each
   pub clear-from-first : (k : ℕ) → recordsFit clock log ≡ true → slotsFit clock slots ≡ true → first ≡ c .first .0 → k ≡ first
       → t ≡ tailsClear words n k → t ≡ true → true ≡ vectorsFit clock log slots words

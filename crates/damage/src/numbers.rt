@@ -1,12 +1,10 @@
 // The number tables: whether none is damaged.
 // Assumes nothing.
-use crate::changes;
 use crate::clock;
-use crate::records;
 use crate::slots;
 use crate::vectors;
 ghost use mathlib.Core.Path.{_≡_};
-ghost use Rattle.damage.specs.Room.{Roomy};
+ghost use Rattle.tables.specs.Room.{Roomy};
 ghost use Rattle.damage.specs.Numbers.{numbersFit};
 
 // Whether the number tables are not damaged.
@@ -19,15 +17,16 @@ pub fn numbers_fit(
     changes: &[u32],
 ) -> bool
     requires { ⌜ Roomy (now clock) (now slots) (now words) (now heads) (now log) (now changes) ⌝ }
-    ensures { λ r. ⌜ r ≡ numbersFit (now (clock .entry)) (now (slots .entry)) (now (words .entry)) (now (heads .entry)) (now (log .entry)) (now (changes .entry)) ⌝ }
+    ensures { λ r. ⌜ r ≡ numbersFit (now (clock .entry)) (now (slots .entry)) (now (words .entry)) (now (heads .entry))
+        (now (log .entry)) (now (changes .entry)) ⌝ }
 {
     if !clock::clock_fits(clock) {
         return false;
     }
-    if !records::records_fit(clock, log) {
+    if !record_damage::records_fit(clock, log) {
         return false;
     }
-    if !changes::changes_fit(clock, log, changes) {
+    if !change_damage::changes_fit(clock, log, changes) {
         return false;
     }
     if !slots::slots_fit(clock, slots) {

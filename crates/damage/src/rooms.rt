@@ -1,7 +1,7 @@
 // Number 1: whether every table is lent with room for its full limit.
 // Assumes nothing.
 ghost use mathlib.Core.Path.{_≡_};
-ghost use Rattle.damage.specs.Room.{roomFor};
+ghost use Rattle.tables.specs.Room.{roomFor};
 
 // Whether every table has room for its full limit; `places` is the length of the session table.
 pub fn room(
@@ -13,7 +13,8 @@ pub fn room(
     changes: &[u32],
     places: usize,
 ) -> bool
-    ensures { λ r. ⌜ r ≡ roomFor (now (clock .entry)) (now (slots .entry)) (now (words .entry)) (now (heads .entry)) (now (log .entry)) (now (changes .entry)) places ⌝ }
+    ensures { λ r. ⌜ r ≡ roomFor (now (clock .entry)) (now (slots .entry)) (now (words .entry)) (now (heads .entry))
+        (now (log .entry)) (now (changes .entry)) places ⌝ }
 {
     (6 <= clock.len())
         & (288 <= slots.len())

@@ -12,7 +12,8 @@ ghost use Rattle.damage.specs.Parts.{StampsLow};
 
 // Whether slot i's vector has no bit at or above the row count at its stamp.
 fn vector_fits(log: &[u32], slots: &[u32], words: &[u64], first: Row, i: usize) -> bool
-    requires { ⌜ (i < 96) × (288 ≤ length (now slots)) × (3072 ≤ length (now words)) × (2048 ≤ length (now log)) × (slotStamp (now slots) i ≤ 512) ⌝ }
+    requires { ⌜ (i < 96) × (288 ≤ length (now slots)) × (3072 ≤ length (now words)) × (2048 ≤ length (now log))
+        × (slotStamp (now slots) i ≤ 512) ⌝ }
     ensures { λ r. ⌜ r ≡ vectorFits (first .0) (now (log .entry)) (now (slots .entry)) (now (words .entry)) i ⌝ }
 {
     let s = tables::slot_stamp(slots, i);
@@ -24,7 +25,8 @@ fn vector_fits(log: &[u32], slots: &[u32], words: &[u64], first: Row, i: usize) 
 
 // Whether each of the first n vectors does.
 fn each_vector_fits(log: &[u32], slots: &[u32], words: &[u64], first: Row, n: usize) -> bool
-    requires { ⌜ (n ≤ 96) × (288 ≤ length (now slots)) × (3072 ≤ length (now words)) × (2048 ≤ length (now log)) × StampsLow (now slots) n ⌝ }
+    requires { ⌜ (n ≤ 96) × (288 ≤ length (now slots)) × (3072 ≤ length (now words)) × (2048 ≤ length (now log))
+        × StampsLow (now slots) n ⌝ }
     ensures { λ r. ⌜ r ≡ allBelow (vectorFits (first .0) (now (log .entry)) (now (slots .entry)) (now (words .entry))) n ⌝ }
 {
     let mut i: usize = 0;

@@ -10,7 +10,7 @@ use Rattle.tables.specs.declared.session.Session.{Session}
 use Rattle.tables.specs.declared.clock.Clock.{Clock}
 use Rattle.tables.specs.Clock.{lentClock}
 use Rattle.tables.specs.Sessions.{sessionAt}
-use Rattle.damage.specs.Judged.{sessionJudged}
+use Rattle.session_damage.specs.Judged.{sessionJudged}
 use Rattle.lent.specs.declared.seats.Seat.{Seat}
 use Rattle.lent.specs.Places.{seatAt}
 

@@ -7,7 +7,7 @@ ghost use mathlib.Core.Path.{_≡_};
 ghost use mathlib.Core.Bool.{_&&_, cond};
 ghost use lib.Dec.{ltb};
 ghost use lib.ListN.{length};
-ghost use Rattle.damage.specs.Judged.{sessionJudged};
+ghost use Rattle.session_damage.specs.Judged.{sessionJudged};
 ghost use Rattle.lent.specs.Places.{seatAt, listedBack, openedAt, freedAt, allFreed};
 ghost use Rattle.lent.specs.Seats.{allFit};
 
@@ -98,7 +98,7 @@ fn limit(yes: bool) -> u64
 fn fits_too(log: &[u32], c: Clock, s: Session, ok: bool) -> bool
     ensures { λ r. ⌜ r ≡ ok && sessionJudged s (now (log .entry)) c ⌝ }
 {
-    let fits = damage::session_fits(s, log, c);
+    let fits = session_damage::session_fits(s, log, c);
     ok & fits
 }
 

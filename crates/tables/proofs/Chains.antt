@@ -35,18 +35,22 @@ module _ (slots words : List ℕ) where
   pub chain-end : (n i : ℕ) → slotLink slots i ≡ 0 → chainFrom slots words (suc n) i ≡ versionAt slots words i ∷ []
   unfolding chainFrom
   chain-end n i e =
-      ap (λ (b : Bool). versionAt slots words i ∷ cond b [] (chainFrom slots words n (slotLink slots i - 1))) (eq-eqb (slotLink slots i) 0 e)
+      ap (λ (b : Bool). versionAt slots words i ∷ cond b [] (chainFrom slots words n (slotLink slots i - 1)))
+      (eq-eqb (slotLink slots i) 0 e)
 
   -- any other is followed by the one that it links to
-  pub chain-on : (n i : ℕ) → 0 < slotLink slots i → chainFrom slots words (suc n) i ≡ versionAt slots words i ∷ chainFrom slots words n (slotLink slots i - 1)
+  pub chain-on : (n i : ℕ) → 0 < slotLink slots i
+      → chainFrom slots words (suc n) i ≡ versionAt slots words i ∷ chainFrom slots words n (slotLink slots i - 1)
   unfolding chainFrom
   chain-on n i h =
-      ap (λ (b : Bool). versionAt slots words i ∷ cond b [] (chainFrom slots words n (slotLink slots i - 1))) (ne-eqb (slotLink slots i) 0 (λ e. omega arith))
+      ap (λ (b : Bool). versionAt slots words i ∷ cond b [] (chainFrom slots words n (slotLink slots i - 1)))
+      (ne-eqb (slotLink slots i) 0 (λ e. omega arith))
 
 -- two tables of slots that agree below `used`, with links that fall, have the same chains there, whatever the bounds above the
 -- slot's number
 pub chain-same : (used : ℕ) (slots words slots′ words′ : List ℕ) → ((i : ℕ) → i < used → slotLink slots i ≤ i)
-    → ((i : ℕ) → i < used → slotLink slots′ i ≡ slotLink slots i) → ((i : ℕ) → i < used → versionAt slots′ words′ i ≡ versionAt slots words i)
+    → ((i : ℕ) → i < used → slotLink slots′ i ≡ slotLink slots i)
+    → ((i : ℕ) → i < used → versionAt slots′ words′ i ≡ versionAt slots words i)
     → (n m i : ℕ) → i < used → i < n → i < m → chainFrom slots′ words′ n i ≡ chainFrom slots words m i
 chain-same used slots words slots′ words′ falls links same zero m i l p q = absurd (omega arith)
 chain-same used slots words slots′ words′ falls links same (suc n) zero i l p q = absurd (omega arith)
@@ -81,7 +85,8 @@ module _ (c slots words : List ℕ) (e : slotsFit c slots ≡ true) where
   chain-next i l h =
       ap (λ (n : ℕ). chainFrom slots words n i) (add-one i) ∙ chain-on slots words i i h
       ∙ ap (λ (ch : Chain). versionAt slots words i ∷ ch)
-      (chain-bound i (slotLink slots i - 1 + 1) (slotLink slots i - 1) (link-used c slots e i l h) (omega (arith, link-falls c slots e i l)) (omega arith))
+      (chain-bound i (slotLink slots i - 1 + 1) (slotLink slots i - 1) (link-used c slots e i l h)
+      (omega (arith, link-falls c slots e i l)) (omega arith))
 
 -- "A head per value names its newest slot."
 pub newest-means : (slots words heads : List ℕ) (v : ℕ) → newest (chainAt slots words heads v) ≡ versionAt slots words (headOf heads v)
@@ -89,4 +94,5 @@ unfolding chainAt chainFrom
 newest-means slots words heads v = ap (λ (n : ℕ). newest (chainFrom slots words n (headOf heads v))) (add-one (headOf heads v))
 
 pub newest-stamp : (slots words heads : List ℕ) (v : ℕ) → newest (chainAt slots words heads v) .stamp ≡ slotStamp slots (headOf heads v)
-newest-stamp slots words heads v = ap (λ (x : Version). x .stamp) (newest-means slots words heads v) ∙ version-stamp slots words (headOf heads v)
+newest-stamp slots words heads v =
+    ap (λ (x : Version). x .stamp) (newest-means slots words heads v) ∙ version-stamp slots words (headOf heads v)

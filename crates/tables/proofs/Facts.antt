@@ -3,23 +3,29 @@
 use mathlib.Core.Path.{_≡_, sym, ap, _∙_}
 use mathlib.Core.Bool.{Bool, true, _||_}
 use mathlib.Core.List.{List}
-use mathlib.Core.Logic.{_⊎_, inl, inr}
+use mathlib.Core.Logic.{_⊎_, inl, inr, ⊎-elim}
 use Prim.Native.Nat.{ℕ, zero, suc, _+_, _-_, _^_, _≤_, _<_}
 use native.Mathlib.Nat.{eq-or-lt-of-le, le-of-suc-le-suc}
 use native.Mathlib.Numerals.{add-one}
 use native.Mathlib.Omega.{arith}
-use borrow.Author.Tests.{leb-true, le-leb, eqb-true, eq-eqb, ltb-true, lt-ltb}
+use borrow.Author.Tests.{eqb-true, eq-eqb}
 use lib.Dec.{eqb}
 use lib.ListN.{length}
 use Rattle.bits.specs.Cases.{lt-cases}
 use Rattle.bits.specs.All.{allBelow, all-at, all-of}
 use Rattle.rules.specs.Limits.{maxValues, maxRows, maxSlots, maxRecords, maxChanges}
 use Rattle.tables.specs.Cells.{Tables, valuesIn, firstIn, stampIn, rowsIn, slotsIn, changesIn, recordStamp, recordKind, recordRows, recordEnd, rowsAt, endAt, changeRow, changeSet}
-use Rattle.tables.specs.Room.{roomy}
+use Rattle.tables.specs.Room.{roomFor, roomy, Roomy}
 use Rattle.tables.specs.Damage.{clockFits, recordFits, recordsFit, allIn, changeFits, recordChangesFit, changesFit, slotsFit, headsFit, vectorsFit, sessionsFit, sound}
-use Rattle.tables.proofs.Tests.{both, and-both, either, or-left, or-right}
+use Rattle.tables.proofs.Tests.{told, made, either, or-left, or-right}
 
 -- ---- room
+
+-- what `numbers_fit` requires
+pub room-lengths : (clock slots words heads log changes : List ℕ) (places : ℕ) → roomFor clock slots words heads log changes places ≡ true
+    → Roomy clock slots words heads log changes
+unfolding roomFor
+room-lengths clock slots words heads log changes places e = search told depth 12
 
 -- no table is short
 pub record Room (t : Tables) : Type 0 where
@@ -31,37 +37,20 @@ pub record Room (t : Tables) : Type 0 where
   pub changes-room : 4096 ≤ length (t .changes)
   pub sessions-room : 16 ≤ length (t .sessions)
 
-pub room-facts : (t : Tables) → roomy t ≡ true → Room t
-unfolding roomy
-room-facts t e =
-    let p = both _ _ e in
-    let q = both _ _ (p .0) in
-    let r = both _ _ (q .0) in
-    let s = both _ _ (r .0) in
-    let u = both _ _ (s .0) in
-    let v = both _ _ (u .0) in
-    record {
-      clock-room = leb-true _ _ (v .0);
-      slots-room = leb-true _ _ (v .1);
-      words-room = leb-true _ _ (u .1);
-      heads-room = leb-true _ _ (s .1);
-      log-room = leb-true _ _ (r .1);
-      changes-room = leb-true _ _ (q .1);
-      sessions-room = leb-true _ _ (p .1);
-    }
+module _ (t : Tables) where
+  pub room-facts : roomy t ≡ true → Room t
+  unfolding roomy roomFor
+  room-facts e = search told depth 12
 
-pub room-made : (t : Tables) → Room t → roomy t ≡ true
-unfolding roomy
-room-made t r =
-    and-both _ _
-    (and-both _ _
-    (and-both _ _
-    (and-both _ _
-    (and-both _ _ (and-both _ _ (le-leb _ _ (r .clock-room)) (le-leb _ _ (r .slots-room))) (le-leb _ _ (r .words-room)))
-    (le-leb _ _ (r .heads-room)))
-    (le-leb _ _ (r .log-room)))
-    (le-leb _ _ (r .changes-room)))
-    (le-leb _ _ (r .sessions-room))
+  pub room-made : Room t → roomy t ≡ true
+  unfolding roomy roomFor
+  room-made r = search made depth 12
+
+  -- by the session table's length
+  pub room-is : (places : ℕ) → places ≡ length (t .sessions)
+      → roomFor (t .clock) (t .slots) (t .words) (t .heads) (t .log) (t .changes) places ≡ roomy t
+  unfolding roomy
+  room-is places e = ap (roomFor (t .clock) (t .slots) (t .words) (t .heads) (t .log) (t .changes)) e
 
 -- ---- the seven parts of "Damaged tables"
 
@@ -77,35 +66,11 @@ pub record Parts (t : Tables) : Type 0 where
 
 pub parts : (t : Tables) → sound t ≡ true → Parts t
 unfolding sound
-parts t e =
-    let p = both _ _ e in
-    let q = both _ _ (p .0) in
-    let r = both _ _ (q .0) in
-    let s = both _ _ (r .0) in
-    let u = both _ _ (s .0) in
-    let v = both _ _ (u .0) in
-    record {
-      clock-fits = v .0;
-      records-fit = v .1;
-      changes-fit = u .1;
-      slots-fit = s .1;
-      heads-fit = r .1;
-      vectors-fit = q .1;
-      sessions-fit = p .1;
-    }
+parts t e = search told depth 12
 
 pub whole : (t : Tables) → Parts t → sound t ≡ true
 unfolding sound
-whole t p =
-    and-both _ _
-    (and-both _ _
-    (and-both _ _
-    (and-both _ _
-    (and-both _ _ (and-both _ _ (p .clock-fits) (p .records-fit)) (p .changes-fit))
-    (p .slots-fit))
-    (p .heads-fit))
-    (p .vectors-fit))
-    (p .sessions-fit)
+whole t p = search made depth 12
 
 -- ---- the clock
 
@@ -122,39 +87,11 @@ pub record ClockFacts (c : List ℕ) : Type 0 where
 
 pub clock-facts : (c : List ℕ) → clockFits c ≡ true → ClockFacts c
 unfolding clockFits
-clock-facts c e =
-    let p = both _ _ e in
-    let q = both _ _ (p .0) in
-    let r = both _ _ (q .0) in
-    let s = both _ _ (r .0) in
-    let u = both _ _ (s .0) in
-    let v = both _ _ (u .0) in
-    let w = both _ _ (v .0) in
-    record {
-      values-low = leb-true _ _ (w .0);
-      values-high = leb-true _ _ (w .1);
-      rows-high = leb-true _ _ (v .1);
-      first-high = leb-true _ _ (u .1);
-      stamp-high = leb-true _ _ (s .1);
-      slots-low = leb-true _ _ (r .1);
-      slots-high = leb-true _ _ (q .1);
-      changes-high = leb-true _ _ (p .1);
-    }
+clock-facts c e = search told depth 12
 
 pub clock-made : (c : List ℕ) → ClockFacts c → clockFits c ≡ true
 unfolding clockFits
-clock-made c f =
-    and-both _ _
-    (and-both _ _
-    (and-both _ _
-    (and-both _ _
-    (and-both _ _
-    (and-both _ _ (and-both _ _ (le-leb _ _ (f .values-low)) (le-leb _ _ (f .values-high))) (le-leb _ _ (f .rows-high)))
-    (le-leb _ _ (f .first-high)))
-    (le-leb _ _ (f .stamp-high)))
-    (le-leb _ _ (f .slots-low)))
-    (le-leb _ _ (f .slots-high)))
-    (le-leb _ _ (f .changes-high))
+clock-made c f = search made depth 12
 
 -- the limits as the numbers that code meets
 pub record ClockLimits (c : List ℕ) : Type 0 where
@@ -167,18 +104,18 @@ pub record ClockLimits (c : List ℕ) : Type 0 where
 
 pub clock-limits : (c : List ℕ) → clockFits c ≡ true → ClockLimits c
 unfolding maxValues maxRows maxRecords maxSlots maxChanges
-clock-limits c e =
-    let f = clock-facts c e in
-    record {
-      few-values = f .values-high;
-      few-rows = f .rows-high;
-      few-first = f .first-high;
-      few-records = f .stamp-high;
-      few-slots = f .slots-high;
-      few-changes = f .changes-high;
-    }
+clock-limits c e = let f = clock-facts c e in search
 
 -- ---- the records
+
+-- what does not fall from one place to the next does not fall
+rises : (g : ℕ → ℕ) (n : ℕ) → ((k : ℕ) → k < n → g k ≤ g (suc k)) → (a b : ℕ) → a ≤ b → b ≤ n → g a ≤ g b
+rises g n h a zero p q = let z : a ≡ 0 = omega arith in rw z (omega arith)
+rises g n h a (suc b) p q = go (eq-or-lt-of-le p) (λ l. rises g n h a b l (omega arith))
+  where
+    go : (a ≡ suc b) ⊎ (a < suc b) → (a ≤ b → g a ≤ g b) → g a ≤ g (suc b)
+    go (inl z) ih = rw z (omega arith)
+    go (inr l) ih = omega (arith, ih (le-of-suc-le-suc l), h b q)
 
 -- the record after stamp k, as code counts
 pub end-next : (log : List ℕ) (k : ℕ) → endAt log (k + 1) ≡ recordEnd log k
@@ -194,51 +131,32 @@ pub record RecordFacts (first : ℕ) (log : List ℕ) (k : ℕ) : Type 0 where
   pub rows-rise : rowsAt first log k ≤ rowsAt first log (suc k)
   pub ends-rise : endAt log k ≤ endAt log (suc k)
 
-kind-cases : (n : ℕ) → (eqb n 1 ≡ true) ⊎ (eqb n 2 ≡ true) → (n ≡ 1) ⊎ (n ≡ 2)
-kind-cases n (inl e) = inl (eqb-true n 1 e)
-kind-cases n (inr e) = inr (eqb-true n 2 e)
+kind-cases : (n : ℕ) → eqb n 1 || eqb n 2 ≡ true → (n ≡ 1) ⊎ (n ≡ 2)
+kind-cases n e = ⊎-elim (λ p. inl (eqb-true n 1 p)) (λ p. inr (eqb-true n 2 p)) (either _ _ e)
 
-kind-made : (n : ℕ) → (n ≡ 1) ⊎ (n ≡ 2) → eqb n 1 || eqb n 2 ≡ true
+pub kind-made : (n : ℕ) → (n ≡ 1) ⊎ (n ≡ 2) → eqb n 1 || eqb n 2 ≡ true
 kind-made n (inl e) = or-left (eqb n 1) (eqb n 2) (eq-eqb n 1 e)
 kind-made n (inr e) = or-right (eqb n 1) (eqb n 2) (eq-eqb n 2 e)
 
 pub record-facts : (first : ℕ) (log : List ℕ) (k : ℕ) → recordFits first log k ≡ true → RecordFacts first log k
 unfolding recordFits
-record-facts first log k e =
-    let p = both _ _ e in
-    let q = both _ _ (p .0) in
-    let r = both _ _ (q .0) in
-    record {
-      bears = eqb-true _ _ (r .0);
-      kinds = kind-cases (recordKind log k) (either _ _ (r .1));
-      rows-rise = leb-true _ _ (q .1);
-      ends-rise = leb-true _ _ (p .1);
-    }
+record-facts first log k e = search (told, kind-cases) depth 12
 
 pub record-made : (first : ℕ) (log : List ℕ) (k : ℕ) → RecordFacts first log k → recordFits first log k ≡ true
 unfolding recordFits
-record-made first log k f =
-    and-both _ _
-    (and-both _ _ (and-both _ _ (eq-eqb _ _ (f .bears)) (kind-made (recordKind log k) (f .kinds)))
-    (le-leb _ _ (f .rows-rise)))
-    (le-leb _ _ (f .ends-rise))
+record-made first log k f = search (made, kind-made) depth 12
 
 module _ (c log : List ℕ) where
   pub records-made : ((k : ℕ) → k < stampIn c → RecordFacts (firstIn c) log k) → endAt log (stampIn c) ≡ changesIn c
       → rowsAt (firstIn c) log (stampIn c) ≡ rowsIn c → recordsFit c log ≡ true
   unfolding recordsFit
-  records-made h p q =
-      and-both _ _
-      (and-both _ _ (all-of (recordFits (firstIn c) log) (stampIn c) (λ k l. record-made (firstIn c) log k (h k l))) (eq-eqb _ _ p))
-      (eq-eqb _ _ q)
+  records-made h p q = search (made, all-of, record-made) depth 12
 
 module _ (c log : List ℕ) (e : recordsFit c log ≡ true) where
-  three : (allBelow (recordFits (firstIn c) log) (stampIn c) ≡ true) × (endAt log (stampIn c) ≡ changesIn c) × (rowsAt (firstIn c) log (stampIn c) ≡ rowsIn c)
+  three : (allBelow (recordFits (firstIn c) log) (stampIn c) ≡ true) × (endAt log (stampIn c) ≡ changesIn c)
+      × (rowsAt (firstIn c) log (stampIn c) ≡ rowsIn c)
   unfolding recordsFit
-  three =
-      let p = both _ _ e in
-      let q = both _ _ (p .0) in
-      (q .0, eqb-true _ _ (q .1), eqb-true _ _ (p .1))
+  three = search told depth 12
 
   pub each-record : (k : ℕ) → k < stampIn c → RecordFacts (firstIn c) log k
   each-record k l = record-facts (firstIn c) log k (all-at (recordFits (firstIn c) log) (stampIn c) (three .0) k l)
@@ -250,21 +168,10 @@ module _ (c log : List ℕ) (e : recordsFit c log ≡ true) where
   last-rows = three .2
 
   pub ends-order : (a b : ℕ) → a ≤ b → b ≤ stampIn c → endAt log a ≤ endAt log b
-  ends-order a zero p q = let z : a ≡ 0 = omega arith in rw z (omega arith)
-  ends-order a (suc b) p q = go (eq-or-lt-of-le p) (λ h. ends-order a b h (omega arith))
-    where
-      go : (a ≡ suc b) ⊎ (a < suc b) → (a ≤ b → endAt log a ≤ endAt log b) → endAt log a ≤ endAt log (suc b)
-      go (inl z) ih = rw z (omega arith)
-      go (inr l) ih = omega (arith, ih (le-of-suc-le-suc l), each-record b q .ends-rise)
+  ends-order = rises (endAt log) (stampIn c) (λ k l. each-record k l .ends-rise)
 
   pub rows-order : (a b : ℕ) → a ≤ b → b ≤ stampIn c → rowsAt (firstIn c) log a ≤ rowsAt (firstIn c) log b
-  rows-order a zero p q = let z : a ≡ 0 = omega arith in rw z (omega arith)
-  rows-order a (suc b) p q = go (eq-or-lt-of-le p) (λ h. rows-order a b h (omega arith))
-    where
-      go : (a ≡ suc b) ⊎ (a < suc b) → (a ≤ b → rowsAt (firstIn c) log a ≤ rowsAt (firstIn c) log b)
-          → rowsAt (firstIn c) log a ≤ rowsAt (firstIn c) log (suc b)
-      go (inl z) ih = rw z (omega arith)
-      go (inr l) ih = omega (arith, ih (le-of-suc-le-suc l), each-record b q .rows-rise)
+  rows-order = rises (rowsAt (firstIn c) log) (stampIn c) (λ k l. each-record k l .rows-rise)
 
   -- the ends lie in the change table, the row counts are at most the current one
   pub end-high : (s : ℕ) → s ≤ stampIn c → endAt log s ≤ changesIn c
@@ -295,11 +202,11 @@ pub record ChangeFacts (changes : List ℕ) (values rows p : ℕ) : Type 0 where
 
 pub change-facts : (changes : List ℕ) (values rows p : ℕ) → changeFits changes values rows p ≡ true → ChangeFacts changes values rows p
 unfolding changeFits
-change-facts changes values rows p e = let q = both _ _ e in record { row-low = ltb-true _ _ (q .0); set-low = ltb-true _ _ (q .1) }
+change-facts changes values rows p e = search told
 
 pub change-made : (changes : List ℕ) (values rows p : ℕ) → ChangeFacts changes values rows p → changeFits changes values rows p ≡ true
 unfolding changeFits
-change-made changes values rows p f = and-both _ _ (lt-ltb _ _ (f .row-low)) (lt-ltb _ _ (f .set-low))
+change-made changes values rows p f = search made
 
 module _ (c log changes : List ℕ) where
   -- each change of the record after stamp k
@@ -309,15 +216,18 @@ module _ (c log changes : List ℕ) where
   each-change e k p l m n =
       let rows = rowsAt (firstIn c) log (suc k) in
       change-facts changes (valuesIn c) rows p
-      (in-at (changeFits changes (valuesIn c) rows) (endAt log k) (endAt log (suc k)) (all-at (recordChangesFit c log changes) (stampIn c) e k l) p m n)
+      (in-at (changeFits changes (valuesIn c) rows) (endAt log k) (endAt log (suc k))
+      (all-at (recordChangesFit c log changes) (stampIn c) e k l) p m n)
 
-  pub changes-made : ((k p : ℕ) → k < stampIn c → endAt log k ≤ p → p < endAt log (suc k) → ChangeFacts changes (valuesIn c) (rowsAt (firstIn c) log (suc k)) p)
+  pub changes-made : ((k p : ℕ) → k < stampIn c → endAt log k ≤ p → p < endAt log (suc k)
+      → ChangeFacts changes (valuesIn c) (rowsAt (firstIn c) log (suc k)) p)
       → changesFit c log changes ≡ true
   unfolding changesFit recordChangesFit
   changes-made h =
       all-of (recordChangesFit c log changes) (stampIn c)
       (λ k l. let rows = rowsAt (firstIn c) log (suc k) in
-      in-of (changeFits changes (valuesIn c) rows) (endAt log k) (endAt log (suc k)) (λ p m n. change-made changes (valuesIn c) rows p (h k p l m n)))
+      in-of (changeFits changes (valuesIn c) rows) (endAt log k) (endAt log (suc k))
+      (λ p m n. change-made changes (valuesIn c) rows p (h k p l m n)))
 
   -- each change of records 1 to s
   pub change-at : recordsFit c log ≡ true → changesFit c log changes ≡ true → (s p : ℕ) → s ≤ stampIn c → p < endAt log s
@@ -331,7 +241,8 @@ module _ (c log changes : List ℕ) where
       go (inr k) ih = each-change e s p l k h
 
   -- each change of the table
-  pub change-now : recordsFit c log ≡ true → changesFit c log changes ≡ true → (p : ℕ) → p < changesIn c → ChangeFacts changes (valuesIn c) (rowsIn c) p
+  pub change-now : recordsFit c log ≡ true → changesFit c log changes ≡ true → (p : ℕ) → p < changesIn c
+      → ChangeFacts changes (valuesIn c) (rowsIn c) p
   change-now r e p h =
       let f = change-at r e (stampIn c) p (omega arith) (omega (arith, last-end c log r)) in
       record { row-low = omega (arith, f .row-low, last-rows c log r); set-low = f .set-low }

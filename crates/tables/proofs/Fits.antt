@@ -37,11 +37,13 @@ changes-fit changes C n (suc k) a b e h =
     rw (stretch-front (changeAt changes) a b (omega arith))
     (f .row-low, f .set-low, changes-fit changes C n k (suc a) b (omega arith) (λ p l m. h p (omega arith) m))
 
-mid-fits : (C n : ℕ) (xs : List Change) (y : Change) (ys : List Change) → ChangesFit C n (xs ++ (y ∷ ys)) → (y .row < n) × (y .flips < 2 ^ C)
+mid-fits : (C n : ℕ) (xs : List Change) (y : Change) (ys : List Change) → ChangesFit C n (xs ++ (y ∷ ys))
+    → (y .row < n) × (y .flips < 2 ^ C)
 mid-fits C n [] y ys h = (h .0, h .1)
 mid-fits C n (x ∷ xs) y ys h = mid-fits C n xs y ys (h .2)
 
-pub changes-fit-at : (changes : List ℕ) (C n a b : ℕ) → ChangesFit C n (stretch (changeAt changes) a b) → (p : ℕ) → a ≤ p → p < b → ChangeFacts changes C n p
+pub changes-fit-at : (changes : List ℕ) (C n a b : ℕ) → ChangesFit C n (stretch (changeAt changes) a b) → (p : ℕ) → a ≤ p → p < b
+    → ChangeFacts changes C n p
 changes-fit-at changes C n a b h p l m =
     let f = mid-fits C n (stretch (changeAt changes) a p) (changeAt changes p) (stretch (changeAt changes) (suc p) b)
     (rw (← (stretch-front (changeAt changes) p b m), stretch-join (changeAt changes) a p b l (omega arith)) h) in
@@ -51,7 +53,8 @@ changes-fit-at changes C n a b h p l m =
 
 module _ (c log changes : List ℕ) (p : recordsFit c log ≡ true) (q : changesFit c log changes ≡ true) where
   -- the records from stamp a on
-  pub records-fit : (k a : ℕ) → a + k ≡ stampIn c → LogFits (valuesIn c) (rowsAt (firstIn c) log a) (stretch (recordAt log changes) a (stampIn c)) (rowsIn c)
+  pub records-fit : (k a : ℕ) → a + k ≡ stampIn c
+      → LogFits (valuesIn c) (rowsAt (firstIn c) log a) (stretch (recordAt log changes) a (stampIn c)) (rowsIn c)
   unfolding recordAt
   records-fit zero a e =
       let z : a ≡ stampIn c = omega arith in
@@ -61,7 +64,8 @@ module _ (c log changes : List ℕ) (p : recordsFit c log ≡ true) (q : changes
       let r = each-record c log p a l in
       rw (stretch-front (recordAt log changes) a (stampIn c) l) (
         r .rows-rise,
-        changes-fit changes (valuesIn c) (rowsAt (firstIn c) log (suc a)) (endAt log (suc a) - endAt log a) (endAt log a) (endAt log (suc a))
+        changes-fit changes (valuesIn c) (rowsAt (firstIn c) log (suc a)) (endAt log (suc a) - endAt log a) (endAt log a)
+            (endAt log (suc a))
             (omega (arith, r .ends-rise)) (λ j m n. each-change c log changes q a j l m n),
         records-fit k (suc a) (omega arith),
       )
@@ -78,9 +82,11 @@ module _ (c slots words : List ℕ) (e : slotsFit c slots ≡ true) where
   chain-falls zero i b l m h = absurd (omega arith)
   chain-falls (suc n) i b l m h =
       go (eq-cases (slotLink slots i) 0)
-      (λ k. chain-falls n (slotLink slots i - 1) (slotStamp slots i) (link-used c slots e i l k) (omega (arith, link-falls c slots e i l)) (link-older c slots e i l k))
+      (λ k. chain-falls n (slotLink slots i - 1) (slotStamp slots i) (link-used c slots e i l k)
+      (omega (arith, link-falls c slots e i l)) (link-older c slots e i l k))
     where
-      go : (slotLink slots i ≡ 0) ⊎ (slotLink slots i ≡ 0 → ⊥) → (0 < slotLink slots i → Falls (slotStamp slots i) (chainFrom slots words n (slotLink slots i - 1)))
+      go : (slotLink slots i ≡ 0) ⊎ (slotLink slots i ≡ 0 → ⊥)
+          → (0 < slotLink slots i → Falls (slotStamp slots i) (chainFrom slots words n (slotLink slots i - 1)))
           → Falls b (chainFrom slots words (suc n) i)
       go (inl z) ih = rw (chain-end slots words n i z, version-stamp slots words i) (h, unlinked-old c slots e i l z)
       go (inr d) ih =
@@ -91,13 +97,15 @@ module _ (c slots words : List ℕ) (e : slotsFit c slots ≡ true) where
 
   -- what holds of the vector of each slot holds along the links
   pub chain-vectors : (first : ℕ) (lg : Log)
-      → ((i : ℕ) → i < slotsIn c → (r : ℕ) → log.rowsAt first lg (versionAt slots words i .stamp) ≤ r → versionAt slots words i .vector r ≡ false)
+      → ((i : ℕ) → i < slotsIn c → (r : ℕ) → log.rowsAt first lg (versionAt slots words i .stamp) ≤ r
+      → versionAt slots words i .vector r ≡ false)
       → (n i : ℕ) → i < slotsIn c → VectorsFit first lg (chainFrom slots words n i)
   chain-vectors first lg v zero i l = rw (chain-none slots words i) tt
   chain-vectors first lg v (suc n) i l =
       go (eq-cases (slotLink slots i) 0) (λ k. chain-vectors first lg v n (slotLink slots i - 1) (link-used c slots e i l k))
     where
-      go : (slotLink slots i ≡ 0) ⊎ (slotLink slots i ≡ 0 → ⊥) → (0 < slotLink slots i → VectorsFit first lg (chainFrom slots words n (slotLink slots i - 1)))
+      go : (slotLink slots i ≡ 0) ⊎ (slotLink slots i ≡ 0 → ⊥)
+          → (0 < slotLink slots i → VectorsFit first lg (chainFrom slots words n (slotLink slots i - 1)))
           → VectorsFit first lg (chainFrom slots words (suc n) i)
       go (inl z) ih = rw (chain-end slots words n i z) (v i l, tt)
       go (inr d) ih = let k : 0 < slotLink slots i = pos-of-ne-zero d in rw (chain-on slots words n i k) (v i l, ih k)
@@ -122,7 +130,8 @@ target-fits C to h (inl l) = rw (target-some to (λ e. omega arith)) l
 target-fits C to h (inr e) = rw (target-none to e) tt
 
 -- one entry before others
-entry-fits : (C n at to : ℕ) (es : List Entry) → C ≤ 32 → n ≤ 2048 → EntryCases C n at to → EntriesFit C n es → EntriesFit C n (entryOf at to ∷ es)
+entry-fits : (C n at to : ℕ) (es : List Entry) → C ≤ 32 → n ≤ 2048 → EntryCases C n at to → EntriesFit C n es
+    → EntriesFit C n (entryOf at to ∷ es)
 entry-fits C n at to es h k (inl p) f = rw (entry-alter at to (λ e. omega (arith, p .0))) (p .0, target-fits C to h (p .1), f)
 entry-fits C n at to es h k (inr p) f = rw (entry-add at to (p .0)) (p .1, f)
 
@@ -143,16 +152,19 @@ once-on at to es h o = go (eq-cases at 65535)
 
 module _ (values first stamp : ℕ) (log : List ℕ) (x : Session) (f : OpenFacts values first stamp log x) where
   -- the entries from a on
-  pub entries-fit : values ≤ 32 → x .rows .0 ≤ 2048 → (k a : ℕ) → a + k ≡ x .count → EntriesFit values (x .rows .0) (stretch (entryAt x) a (x .count))
+  pub entries-fit : values ≤ 32 → x .rows .0 ≤ 2048 → (k a : ℕ) → a + k ≡ x .count
+      → EntriesFit values (x .rows .0) (stretch (entryAt x) a (x .count))
   unfolding entryAt
   entries-fit h g zero a e = rw (stretch-none (entryAt x) a (x .count) (omega arith)) tt
   entries-fit h g (suc k) a e =
       rw (stretch-front (entryAt x) a (x .count) (omega arith))
-      (entry-fits values (x .rows .0) (getD (x .at) a 0) (getD (x .to) a 0) (stretch (entryAt x) (suc a) (x .count)) h g (f .entry-cases a (omega arith))
+      (entry-fits values (x .rows .0) (getD (x .at) a 0) (getD (x .to) a 0) (stretch (entryAt x) (suc a) (x .count)) h g
+      (f .entry-cases a (omega arith))
       (entries-fit h g k (suc a) (omega arith)))
 
   -- no entry from b on names the row of entry a
-  not-listed : (a : ℕ) → a < x .count → (k b : ℕ) → b + k ≡ x .count → a < b → lists (stretch (entryAt x) b (x .count)) (getD (x .at) a 0) ≡ false
+  not-listed : (a : ℕ) → a < x .count → (k b : ℕ) → b + k ≡ x .count → a < b
+      → lists (stretch (entryAt x) b (x .count)) (getD (x .at) a 0) ≡ false
   unfolding entryAt
   not-listed a l zero b e m = rw (stretch-none (entryAt x) b (x .count) (omega arith))
   not-listed a l (suc k) b e m =
@@ -165,5 +177,6 @@ module _ (values first stamp : ℕ) (log : List ℕ) (x : Session) (f : OpenFact
   entries-once zero a e = rw (stretch-none (entryAt x) a (x .count) (omega arith)) tt
   entries-once (suc k) a e =
       rw (stretch-front (entryAt x) a (x .count) (omega arith))
-      (once-on (getD (x .at) a 0) (getD (x .to) a 0) (stretch (entryAt x) (suc a) (x .count)) (λ n. not-listed a (omega arith) k (suc a) (omega arith) (omega arith))
+      (once-on (getD (x .at) a 0) (getD (x .to) a 0) (stretch (entryAt x) (suc a) (x .count))
+      (λ n. not-listed a (omega arith) k (suc a) (omega arith) (omega arith))
       (entries-once k (suc a) (omega arith)))

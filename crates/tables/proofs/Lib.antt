@@ -4,6 +4,8 @@ pub mod Access
 pub mod Stretch
 pub mod Tests
 pub mod Facts
+pub mod Fold
+pub mod ClockLaws
 pub mod Slots
 pub mod Sessions
 pub mod Means

@@ -55,14 +55,16 @@ module _ (t : Tables) where
 
 module _ (c log : List ℕ) (e : recordsFit c log ≡ true) (changes : List ℕ) where
   -- the changes of records a + 1 to b are one stretch of the change table
-  records-changes : (a b : ℕ) → a ≤ b → b ≤ stampIn c → changesOf (stretch (recordAt log changes) a b) ≡ stretch (changeAt changes) (endAt log a) (endAt log b)
+  records-changes : (a b : ℕ) → a ≤ b → b ≤ stampIn c
+      → changesOf (stretch (recordAt log changes) a b) ≡ stretch (changeAt changes) (endAt log a) (endAt log b)
   unfolding recordAt
   records-changes a zero p q =
       let z : a ≡ 0 = omega arith in
       rw (z, stretch-none (recordAt log changes) 0 0 (omega arith), stretch-none (changeAt changes) 0 0 (omega arith))
   records-changes a (suc b) p q = go (eq-or-lt-of-le p) (λ h. records-changes a b h (omega arith))
     where
-      go : (a ≡ suc b) ⊎ (a < suc b) → (a ≤ b → changesOf (stretch (recordAt log changes) a b) ≡ stretch (changeAt changes) (endAt log a) (endAt log b))
+      go : (a ≡ suc b) ⊎ (a < suc b)
+          → (a ≤ b → changesOf (stretch (recordAt log changes) a b) ≡ stretch (changeAt changes) (endAt log a) (endAt log b))
           → changesOf (stretch (recordAt log changes) a (suc b)) ≡ stretch (changeAt changes) (endAt log a) (endAt log (suc b))
       go (inl z) ih =
           rw (
@@ -74,7 +76,8 @@ module _ (c log : List ℕ) (e : recordsFit c log ≡ true) (changes : List ℕ)
           ap changesOf (stretch-step (recordAt log changes) a b (le-of-suc-le-suc l))
           ∙ changesOf-snoc (stretch (recordAt log changes) a b) (recordAt log changes b)
           ∙ ap (λ (l : List Change). l ++ recordAt log changes b .changes) (ih (le-of-suc-le-suc l))
-          ∙ stretch-join (changeAt changes) (endAt log a) (endAt log b) (endAt log (suc b)) (ends-order c log e a b (le-of-suc-le-suc l) (omega arith))
+          ∙ stretch-join (changeAt changes) (endAt log a) (endAt log b) (endAt log (suc b))
+          (ends-order c log e a b (le-of-suc-le-suc l) (omega arith))
           (each-record c log e b q .ends-rise)
 
 module _ (t : Tables) (e : recordsFit (t .clock) (t .log) ≡ true) where
@@ -87,7 +90,8 @@ module _ (t : Tables) (e : recordsFit (t .clock) (t .log) ≡ true) where
       ∙ records-changes (t .clock) (t .log) e (t .changes) a b h l
 
   -- records 1 to s
-  pub upTo-means : (s : ℕ) → s ≤ stampIn (t .clock) → changesOf (upTo (meaning t .log) s) ≡ stretch (changeAt (t .changes)) 0 (endAt (t .log) s)
+  pub upTo-means : (s : ℕ) → s ≤ stampIn (t .clock)
+      → changesOf (upTo (meaning t .log) s) ≡ stretch (changeAt (t .changes)) 0 (endAt (t .log) s)
   unfolding meaning upTo
   upTo-means s h =
       ap changesOf (take-tab (recordAt (t .log) (t .changes)) s (stampIn (t .clock)) h)
@@ -121,7 +125,8 @@ rows-of first [] k d h = absurd (omega arith)
 rows-of first (x ∷ xs) zero d h = refl
 rows-of first (x ∷ xs) (suc k) d h = rows-of (x .rows) xs k d (le-of-suc-le-suc h)
 
-pub rowsAt-means : (t : Tables) (s : ℕ) → s ≤ stampIn (t .clock) → log.rowsAt (meaning t .first) (meaning t .log) s ≡ rowsAt (firstIn (t .clock)) (t .log) s
+pub rowsAt-means : (t : Tables) (s : ℕ) → s ≤ stampIn (t .clock)
+    → log.rowsAt (meaning t .first) (meaning t .log) s ≡ rowsAt (firstIn (t .clock)) (t .log) s
 unfolding meaning recordAt
 rowsAt-means t zero h = refl
 rowsAt-means t (suc k) h =
@@ -145,7 +150,8 @@ module _ (t : Tables) (i : ℕ) where
   pub session-past : 16 ≤ i → session (meaning t) i ≡ free
   unfolding meaning
   session-past h =
-      List·getD-eq-default (tab (λ k. sessionOf (sessionAt (t .sessions) k)) 16) free (omega (arith, length-tab (λ k. sessionOf (sessionAt (t .sessions) k)) 16))
+      List·getD-eq-default (tab (λ k. sessionOf (sessionAt (t .sessions) k)) 16) free
+      (omega (arith, length-tab (λ k. sessionOf (sessionAt (t .sessions) k)) 16))
 
 module _ (x : Session) where
   pub open-means : x .live ≡ 1 → sessionOf x ≡ opened (x .start .0) (x .rows .0) (entries x)

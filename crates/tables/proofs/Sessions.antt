@@ -1,15 +1,14 @@
 -- What sessions that are not damaged have, as facts on numbers: free and all 0, or open.
 -- Assumes nothing.
-use mathlib.Core.Path.{_≡_, refl, sym, ap, _∙_}
+use mathlib.Core.Path.{_≡_, refl, ap}
 use mathlib.Core.Bool.{Bool, true, not, _&&_, _||_}
 use mathlib.Core.List.{List}
 use mathlib.Core.Logic.{_⊎_, inl, inr, ⊎-elim}
 use Prim.Native.Nat.{ℕ, _≤_, _<_}
 use native.Mathlib.Omega.{arith}
-use borrow.Author.Tests.{leb-true, le-leb, eqb-true, eqb-false, eq-eqb, ne-eqb, ltb-true, lt-ltb, not-true}
+use borrow.Author.Tests.{eqb-true, eqb-false, eq-eqb, ne-eqb, ltb-true, lt-ltb, not-true}
 use lib.Dec.{eqb, ltb}
-use lib.ListN.{length, getD, replicate, length-replicate, getD-replicate}
-use lib.Seq.{ext-getD}
+use lib.ListN.{length, getD, getD-replicate}
 use Rattle.bits.specs.Cases.{eq-cases}
 use Rattle.bits.specs.Words.{Words}
 use Rattle.bits.specs.All.{allBelow, all-at, all-of}
@@ -18,7 +17,7 @@ use Rattle.tables.specs.declared.session.Session.{Session}
 use Rattle.tables.specs.Cells.{Tables, valuesIn, firstIn, stampIn, rowsIn, rowsAt}
 use Rattle.tables.specs.Sessions.{freed, sessionAt}
 use Rattle.tables.specs.Damage.{clockFits, recordsFit, entryZero, allZero, entryFits, onceFits, openFits, sessionFits, sessionsFit}
-use Rattle.tables.proofs.Tests.{both, and-both, either, or-left, or-right}
+use Rattle.tables.proofs.Tests.{told, made, either, or-left, or-right}
 use Rattle.tables.proofs.Facts.{clock-limits, rows-high-at}
 
 -- ---- a free session
@@ -32,50 +31,25 @@ pub record ZeroFacts (x : Session) : Type 0 where
   pub at-zero : (i : ℕ) → i < 32 → _≡_ {A = ℕ} (getD (x .at) i 0) 0
   pub to-zero : (i : ℕ) → i < 32 → _≡_ {A = ℕ} (getD (x .to) i 0) 0
 
-entry-zero : (x : Session) (i : ℕ) → entryZero x i ≡ true → (_≡_ {A = ℕ} (getD (x .at) i 0) 0) × (_≡_ {A = ℕ} (getD (x .to) i 0) 0)
-unfolding entryZero
-entry-zero x i e = let p = both _ _ e in (eqb-true _ _ (p .0), eqb-true _ _ (p .1))
+module _ (x : Session) (e : allBelow (entryZero x) 32 ≡ true) (i : ℕ) (l : i < 32) where
+  entry-zero : entryZero x i ≡ true
+  entry-zero = all-at (entryZero x) 32 e i l
+
+  row-zero : _≡_ {A = ℕ} (getD (x .at) i 0) 0
+  unfolding entryZero
+  row-zero = let z = entry-zero in search told
+
+  target-zero : _≡_ {A = ℕ} (getD (x .to) i 0) 0
+  unfolding entryZero
+  target-zero = let z = entry-zero in search told
 
 pub zero-facts : (x : Session) → allZero x ≡ true → ZeroFacts x
 unfolding allZero maxEntries
-zero-facts x e =
-    let p = both _ _ e in
-    let q = both _ _ (p .0) in
-    let r = both _ _ (q .0) in
-    let s = both _ _ (r .0) in
-    record {
-      live-zero = eqb-true _ _ (s .0);
-      start-zero = eqb-true _ _ (s .1);
-      rows-zero = eqb-true _ _ (r .1);
-      count-zero = eqb-true _ _ (q .1);
-      at-zero = λ i l. entry-zero x i (all-at (entryZero x) 32 (p .1) i l) .0;
-      to-zero = λ i l. entry-zero x i (all-at (entryZero x) 32 (p .1) i l) .1;
-    }
+zero-facts x e = search (told, row-zero, target-zero) depth 12
 
 pub zero-made : (x : Session) → ZeroFacts x → allZero x ≡ true
 unfolding allZero entryZero maxEntries
-zero-made x f =
-    and-both _ _
-    (and-both _ _
-    (and-both _ _ (and-both _ _ (eq-eqb _ _ (f .live-zero)) (eq-eqb _ _ (f .start-zero))) (eq-eqb _ _ (f .rows-zero)))
-    (eq-eqb _ _ (f .count-zero)))
-    (all-of (entryZero x) 32 (λ i l. and-both _ _ (eq-eqb _ _ (f .at-zero i l)) (eq-eqb _ _ (f .to-zero i l))))
-
--- its cells are those of `freed`
-zeros : (l : List ℕ) (n : ℕ) → length l ≡ n → ((i : ℕ) → i < n → _≡_ {A = ℕ} (getD l i 0) 0) → l ≡ replicate n 0
-zeros l n e h =
-    ext-getD 0 l (replicate n 0) (e ∙ sym (length-replicate n 0))
-    (λ i m. h i (omega arith) ∙ sym (getD-replicate n i 0 0 (omega arith)))
-
-all-zeros : (l s r n : ℕ) (a t : List ℕ) → l ≡ 0 → s ≡ 0 → r ≡ 0 → n ≡ 0 → a ≡ replicate 32 0 → t ≡ replicate 32 0
-    → record { live = l; start = record { 0 = s }; rows = record { 0 = r }; count = n; at = a; to = t } ≡ freed
-unfolding freed
-all-zeros l s r n a t p q u v w z = rw (p, q, u, v, w, z)
-
-pub zero-freed : (x : Session) → length (x .at) ≡ 32 → length (x .to) ≡ 32 → ZeroFacts x → x ≡ freed
-zero-freed x p q f =
-    all-zeros (x .live) (x .start .0) (x .rows .0) (x .count) (x .at) (x .to) (f .live-zero) (f .start-zero) (f .rows-zero) (f .count-zero)
-    (zeros (x .at) 32 p (f .at-zero)) (zeros (x .to) 32 q (f .to-zero))
+zero-made x f = search (made, all-of, f .at-zero, f .to-zero) depth 12
 
 pub freed-zero : ZeroFacts freed
 unfolding freed
@@ -103,17 +77,14 @@ pub record OpenFacts (values first stamp : ℕ) (log : List ℕ) (x : Session) :
   pub entry-cases : (i : ℕ) → i < x .count → EntryCases values (x .rows .0) (getD (x .at) i 0) (getD (x .to) i 0)
   pub listed-once : (i j : ℕ) → i < x .count → j < i → (getD (x .at) i 0 ≡ 65535 → ⊥) → getD (x .at) j 0 ≡ getD (x .at) i 0 → ⊥
 
-target-cases : (values to : ℕ) → (ltb to values ≡ true) ⊎ (eqb to 255 ≡ true) → (to < values) ⊎ (to ≡ 255)
-target-cases values to (inl e) = inl (ltb-true to values e)
-target-cases values to (inr e) = inr (eqb-true to 255 e)
+target-cases : (values to : ℕ) → ltb to values || eqb to 255 ≡ true → (to < values) ⊎ (to ≡ 255)
+target-cases values to e = ⊎-elim (λ p. inl (ltb-true to values p)) (λ p. inr (eqb-true to 255 p)) (either _ _ e)
 
 pub entry-facts : (values rows at to : ℕ) → entryFits values rows at to ≡ true → EntryCases values rows at to
 unfolding entryFits
-entry-facts values rows at to e = go (either _ _ e)
-  where
-    go : (ltb at rows && (ltb to values || eqb to 255) ≡ true) ⊎ (eqb at 65535 && ltb to values ≡ true) → EntryCases values rows at to
-    go (inl p) = let q = both _ _ p in inl (ltb-true at rows (q .0), target-cases values to (either _ _ (q .1)))
-    go (inr p) = let q = both _ _ p in inr (eqb-true at 65535 (q .0), ltb-true to values (q .1))
+entry-facts values rows at to e =
+    ⊎-elim (λ p. inl (search (told, target-cases))) (λ p. inr (search told))
+    (either (ltb at rows && (ltb to values || eqb to 255)) (eqb at 65535 && ltb to values) e)
 
 target-made : (values to : ℕ) → (to < values) ⊎ (to ≡ 255) → ltb to values || eqb to 255 ≡ true
 target-made values to (inl h) = or-left (ltb to values) (eqb to 255) (lt-ltb to values h)
@@ -121,84 +92,67 @@ target-made values to (inr h) = or-right (ltb to values) (eqb to 255) (eq-eqb to
 
 pub entry-made : (values rows at to : ℕ) → EntryCases values rows at to → entryFits values rows at to ≡ true
 unfolding entryFits
-entry-made values rows at to (inl p) =
-    or-left (ltb at rows && (ltb to values || eqb to 255)) (eqb at 65535 && ltb to values)
-    (and-both (ltb at rows) (ltb to values || eqb to 255) (lt-ltb at rows (p .0)) (target-made values to (p .1)))
-entry-made values rows at to (inr p) =
-    or-right (ltb at rows && (ltb to values || eqb to 255)) (eqb at 65535 && ltb to values)
-    (and-both (eqb at 65535) (ltb to values) (eq-eqb at 65535 (p .0)) (lt-ltb to values (p .1)))
+entry-made values rows at to (inl p) = search (made, or-left, target-made) depth 8
+entry-made values rows at to (inr p) = search (made, or-right) depth 8
 
--- the test that no entry before i has its row
-abbrev other : Session → ℕ → ℕ → Bool
-other x i j = not (eqb (getD (x .at) j 0) (getD (x .at) i 0))
+module _ (x : Session) (i : ℕ) where
+  -- the test that entry j does not have the row of entry i
+  abbrev other : ℕ → Bool
+  other j = not (eqb (getD (x .at) j 0) (getD (x .at) i 0))
 
-once-facts : (x : Session) (i j : ℕ) → onceFits x i ≡ true → j < i → (getD (x .at) i 0 ≡ 65535 → ⊥) → getD (x .at) j 0 ≡ getD (x .at) i 0 → ⊥
-unfolding onceFits
-once-facts x i j e l n = go (either _ _ e)
-  where
-    go : (eqb (getD (x .at) i 0) 65535 ≡ true) ⊎ (allBelow (other x i) i ≡ true) → getD (x .at) j 0 ≡ getD (x .at) i 0 → ⊥
-    go (inl p) = absurd (n (eqb-true _ _ p))
-    go (inr p) = eqb-false _ _ (not-true _ (all-at (other x i) i p j l))
+  -- no entry before i has its row
+  abbrev OnceAt : Type 0
+  OnceAt = (j : ℕ) → j < i → (getD (x .at) i 0 ≡ 65535 → ⊥) → getD (x .at) j 0 ≡ getD (x .at) i 0 → ⊥
 
-once-made : (x : Session) (i : ℕ) → ((j : ℕ) → j < i → (getD (x .at) i 0 ≡ 65535 → ⊥) → getD (x .at) j 0 ≡ getD (x .at) i 0 → ⊥) → onceFits x i ≡ true
-unfolding onceFits
-once-made x i h =
-    ⊎-elim (λ (p : getD (x .at) i 0 ≡ 65535). or-left (eqb (getD (x .at) i 0) 65535) (allBelow (other x i) i) (eq-eqb (getD (x .at) i 0) 65535 p))
-    (λ (n : getD (x .at) i 0 ≡ 65535 → ⊥).
-    or-right (eqb (getD (x .at) i 0) 65535) (allBelow (other x i) i)
-    (all-of (other x i) i (λ j l. ap not (ne-eqb _ _ (h j l n))))) (eq-cases (getD (x .at) i 0) 65535)
+  once-facts : onceFits x i ≡ true → OnceAt
+  unfolding onceFits
+  once-facts e j l n =
+      ⊎-elim (λ (p : eqb (getD (x .at) i 0) 65535 ≡ true). absurd (n (eqb-true _ _ p)))
+      (λ (p : allBelow other i ≡ true). eqb-false _ _ (not-true _ (all-at other i p j l)))
+      (either (eqb (getD (x .at) i 0) 65535) (allBelow other i) e)
 
-pub open-facts : (values first stamp : ℕ) (log : List ℕ) (x : Session) → openFits values first stamp log x ≡ true → OpenFacts values first stamp log x
-unfolding openFits maxEntries
-open-facts values first stamp log x e =
-    let p = both _ _ e in
-    let q = both _ _ (p .0) in
-    let r = both _ _ (q .0) in
-    let s = both _ _ (r .0) in
-    let u = both _ _ (s .0) in
-    record {
-      live-one = eqb-true _ _ (u .0);
-      start-old = leb-true _ _ (u .1);
-      rows-then = eqb-true _ _ (s .1);
-      count-low = leb-true _ _ (r .1);
-      entry-cases =
-          λ i l. entry-facts values (x .rows .0) (getD (x .at) i 0) (getD (x .to) i 0)
-          (all-at (λ k. entryFits values (x .rows .0) (getD (x .at) k 0) (getD (x .to) k 0)) (x .count) (q .1) i l);
-      listed-once = λ i j l m. once-facts x i j (all-at (onceFits x) (x .count) (p .1) i l) m;
-    }
+  once-made : OnceAt → onceFits x i ≡ true
+  unfolding onceFits
+  once-made h =
+      ⊎-elim (λ (p : getD (x .at) i 0 ≡ 65535). or-left (eqb (getD (x .at) i 0) 65535) (allBelow other i) (eq-eqb _ _ p))
+      (λ (n : getD (x .at) i 0 ≡ 65535 → ⊥).
+      or-right (eqb (getD (x .at) i 0) 65535) (allBelow other i) (all-of other i (λ j l. ap not (ne-eqb _ _ (h j l n)))))
+      (eq-cases (getD (x .at) i 0) 65535)
 
-pub open-made : (values first stamp : ℕ) (log : List ℕ) (x : Session) → OpenFacts values first stamp log x → openFits values first stamp log x ≡ true
-unfolding openFits maxEntries
-open-made values first stamp log x f =
-    and-both _ _
-    (and-both _ _
-    (and-both _ _
-    (and-both _ _ (and-both _ _ (eq-eqb _ _ (f .live-one)) (le-leb _ _ (f .start-old))) (eq-eqb _ _ (f .rows-then)))
-    (le-leb _ _ (f .count-low)))
-    (all-of (λ i. entryFits values (x .rows .0) (getD (x .at) i 0) (getD (x .to) i 0)) (x .count)
-    (λ i l. entry-made values (x .rows .0) (getD (x .at) i 0) (getD (x .to) i 0) (f .entry-cases i l))))
-    (all-of (onceFits x) (x .count) (λ i l. once-made x i (λ j m. f .listed-once i j l m)))
+module _ (values : ℕ) (x : Session) (i : ℕ) (l : i < x .count) where
+  abbrev entry : ℕ → Bool
+  entry k = entryFits values (x .rows .0) (getD (x .at) k 0) (getD (x .to) k 0)
 
--- ---- any session
+  case-at : allBelow entry (x .count) ≡ true → EntryCases values (x .rows .0) (getD (x .at) i 0) (getD (x .to) i 0)
+  case-at e = entry-facts values (x .rows .0) (getD (x .at) i 0) (getD (x .to) i 0) (all-at entry (x .count) e i l)
 
-pub session-facts : (values first stamp : ℕ) (log : List ℕ) (x : Session) → sessionFits values first stamp log x ≡ true → ZeroFacts x ⊎ OpenFacts values first stamp log x
-unfolding sessionFits
-session-facts values first stamp log x e =
-    ⊎-elim (λ (p : allZero x ≡ true). inl (zero-facts x p)) (λ (p : openFits values first stamp log x ≡ true). inr (open-facts values first stamp log x p))
-    (either (allZero x) (openFits values first stamp log x) e)
+  once-at : allBelow (onceFits x) (x .count) ≡ true → OnceAt x i
+  once-at e = once-facts x i (all-at (onceFits x) (x .count) e i l)
 
-pub session-open : (values first stamp : ℕ) (log : List ℕ) (x : Session) → sessionFits values first stamp log x ≡ true → x .live ≡ 1 → OpenFacts values first stamp log x
-session-open values first stamp log x e l =
-    ⊎-elim (λ (z : ZeroFacts x). absurd (omega (arith, z .live-zero))) (λ (f : OpenFacts values first stamp log x). f) (session-facts values first stamp log x e)
+module _ (values first stamp : ℕ) (log : List ℕ) (x : Session) where
+  pub open-facts : openFits values first stamp log x ≡ true → OpenFacts values first stamp log x
+  unfolding openFits maxEntries
+  open-facts e = search (told, case-at, once-at) depth 12
 
-pub session-free : (values first stamp : ℕ) (log : List ℕ) (x : Session) → sessionFits values first stamp log x ≡ true → (x .live ≡ 1 → ⊥) → ZeroFacts x
-session-free values first stamp log x e n =
-    ⊎-elim (λ (z : ZeroFacts x). z) (λ (f : OpenFacts values first stamp log x). absurd (n (f .live-one))) (session-facts values first stamp log x e)
+  pub open-made : OpenFacts values first stamp log x → openFits values first stamp log x ≡ true
+  unfolding openFits maxEntries
+  open-made f = search (made, all-of, entry-made, once-made, f .entry-cases, f .listed-once) depth 12
 
-pub session-made : (values first stamp : ℕ) (log : List ℕ) (x : Session) → ZeroFacts x ⊎ OpenFacts values first stamp log x → sessionFits values first stamp log x ≡ true
-unfolding sessionFits
-session-made values first stamp log x (inl z) = or-left (allZero x) (openFits values first stamp log x) (zero-made x z)
-session-made values first stamp log x (inr f) = or-right (allZero x) (openFits values first stamp log x) (open-made values first stamp log x f)
+  -- any session
+  pub session-facts : sessionFits values first stamp log x ≡ true → ZeroFacts x ⊎ OpenFacts values first stamp log x
+  unfolding sessionFits
+  session-facts e =
+      ⊎-elim (λ (p : allZero x ≡ true). inl (zero-facts x p)) (λ (p : openFits values first stamp log x ≡ true). inr (open-facts p))
+      (either (allZero x) (openFits values first stamp log x) e)
+
+  session-open : sessionFits values first stamp log x ≡ true → x .live ≡ 1 → OpenFacts values first stamp log x
+  session-open e l =
+      ⊎-elim (λ (z : ZeroFacts x). absurd (omega (arith, z .live-zero))) (λ (f : OpenFacts values first stamp log x). f) (session-facts e)
+
+  pub session-made : ZeroFacts x ⊎ OpenFacts values first stamp log x → sessionFits values first stamp log x ≡ true
+  unfolding sessionFits
+  session-made (inl z) = or-left (allZero x) (openFits values first stamp log x) (zero-made x z)
+  session-made (inr f) = or-right (allZero x) (openFits values first stamp log x) (open-made f)
 
 -- ---- the session table
 
@@ -206,11 +160,11 @@ module _ (c log : List ℕ) (sessions : List Session) where
   abbrev Fits : ℕ → Bool
   Fits i = sessionFits (valuesIn c) (firstIn c) (stampIn c) log (sessionAt sessions i)
 
-  pub each-session : sessionsFit c log sessions ≡ true → (i : ℕ) → i < 16 → sessionFits (valuesIn c) (firstIn c) (stampIn c) log (sessionAt sessions i) ≡ true
+  pub each-session : sessionsFit c log sessions ≡ true → (i : ℕ) → i < 16 → Fits i ≡ true
   unfolding sessionsFit maxSessions
   each-session e i l = all-at Fits 16 e i l
 
-  pub sessions-made : ((i : ℕ) → i < 16 → sessionFits (valuesIn c) (firstIn c) (stampIn c) log (sessionAt sessions i) ≡ true) → sessionsFit c log sessions ≡ true
+  pub sessions-made : ((i : ℕ) → i < 16 → Fits i ≡ true) → sessionsFit c log sessions ≡ true
   unfolding sessionsFit maxSessions
   sessions-made h = all-of Fits 16 h
 
@@ -220,7 +174,8 @@ module _ (c log : List ℕ) (sessions : List Session) where
   open-at e i l = session-open (valuesIn c) (firstIn c) (stampIn c) log (sessionAt sessions i) (each-session e i l)
 
 -- its row count is at most the current one, and so no row of an open session is the cell of an insert
-module _ (c log : List ℕ) (p : clockFits c ≡ true) (q : recordsFit c log ≡ true) (x : Session) (f : OpenFacts (valuesIn c) (firstIn c) (stampIn c) log x) where
+module _ (c log : List ℕ) (p : clockFits c ≡ true) (q : recordsFit c log ≡ true) (x : Session)
+    (f : OpenFacts (valuesIn c) (firstIn c) (stampIn c) log x) where
   pub open-rows : x .rows .0 ≤ rowsIn c
   open-rows = omega (arith, f .rows-then, rows-high-at c log q (x .start .0) (f .start-old))
 
@@ -234,11 +189,3 @@ pub record Typed (t : Tables) : Type 0 where
   pub words-fit : Words (t .words)
   pub at-cells : (i : ℕ) → length (sessionAt (t .sessions) i .at) ≡ 32
   pub to-cells : (i : ℕ) → length (sessionAt (t .sessions) i .to) ≡ 32
-
--- a session that is not open is all 0
-pub free-at : (t : Tables) → Typed t → sessionsFit (t .clock) (t .log) (t .sessions) ≡ true → (i : ℕ) → i < 16 → (sessionAt (t .sessions) i .live ≡ 1 → ⊥)
-    → sessionAt (t .sessions) i ≡ freed
-free-at t y e i l n =
-    zero-freed (sessionAt (t .sessions) i) (y .at-cells i) (y .to-cells i)
-    (session-free (valuesIn (t .clock)) (firstIn (t .clock)) (stampIn (t .clock)) (t .log) (sessionAt (t .sessions) i)
-    (each-session (t .clock) (t .log) (t .sessions) e i l) n)

@@ -1,13 +1,13 @@
 -- What slots, heads and vectors that are not damaged have, as facts on numbers.
 -- Assumes nothing.
 use mathlib.Core.Path.{_≡_, sym, ap, _∙_, subst}
-use mathlib.Core.Bool.{Bool, true, false, not, cond}
+use mathlib.Core.Bool.{true, false, not}
 use mathlib.Core.List.{List}
 use mathlib.Core.Logic.{⊎-elim}
 use Prim.Native.Nat.{ℕ, _+_, _-_, _*_, _^_, _≤_, _<_}
 use native.Mathlib.Nat.{pos-of-ne-zero}
 use native.Mathlib.Omega.{arith}
-use borrow.Author.Tests.{leb-true, le-leb, eqb-true, eqb-false, eq-eqb, ne-eqb, ltb-true, lt-ltb, le-ltb, not-true}
+use borrow.Author.Tests.{eqb-false, ne-eqb, lt-ltb, le-ltb, not-true}
 use lib.Dec.{eqb, lit<}
 use lib.ListN.{length, take, drop, length-take, length-drop, List·getD-eq-default}
 use lib.Seq.{getD-take, getD-drop}
@@ -17,7 +17,7 @@ use Rattle.bits.specs.All.{all-at, all-of}
 use Rattle.bits.specs.Tail.{tailClear, tail-bits}
 use Rattle.tables.specs.Cells.{valuesIn, firstIn, stampIn, slotsIn, slotValue, slotStamp, slotLink, slotWords, headOf, rowsAt}
 use Rattle.tables.specs.Damage.{firstSlotFits, laterSlotFits, slotFits, slotsFit, headFits, headsFit, vectorFits, vectorsFit}
-use Rattle.tables.proofs.Tests.{both, and-both}
+use Rattle.tables.proofs.Tests.{told, made}
 
 -- ---- slots
 
@@ -38,14 +38,11 @@ pub record LaterSlot (values stamp : ℕ) (slots : List ℕ) (i : ℕ) : Type 0 
 
 pub first-facts : (slots : List ℕ) (i : ℕ) → firstSlotFits slots i ≡ true → FirstSlot slots i
 unfolding firstSlotFits
-first-facts slots i e =
-    let p = both _ _ e in
-    let q = both _ _ (p .0) in
-    record { own-value = eqb-true _ _ (q .0); no-stamp = eqb-true _ _ (q .1); no-link = eqb-true _ _ (p .1) }
+first-facts slots i e = search told
 
 pub first-made : (slots : List ℕ) (i : ℕ) → FirstSlot slots i → firstSlotFits slots i ≡ true
 unfolding firstSlotFits
-first-made slots i f = and-both _ _ (and-both _ _ (eq-eqb _ _ (f .own-value)) (eq-eqb _ _ (f .no-stamp))) (eq-eqb _ _ (f .no-link))
+first-made slots i f = search made
 
 positive : (n : ℕ) → not (eqb n 0) ≡ true → 0 < n
 positive n e = pos-of-ne-zero (eqb-false n 0 (not-true (eqb n 0) e))
@@ -55,31 +52,11 @@ not-zero n h = ap not (ne-eqb n 0 (λ e. omega arith))
 
 pub later-facts : (values stamp : ℕ) (slots : List ℕ) (i : ℕ) → laterSlotFits values stamp slots i ≡ true → LaterSlot values stamp slots i
 unfolding laterSlotFits
-later-facts values stamp slots i e =
-    let p = both _ _ e in
-    let q = both _ _ (p .0) in
-    let r = both _ _ (q .0) in
-    let s = both _ _ (r .0) in
-    let u = both _ _ (s .0) in
-    record {
-      value-low = ltb-true _ _ (u .0);
-      stamp-low = leb-true _ _ (u .1);
-      linked = positive (slotLink slots i) (s .1);
-      link-low = leb-true _ _ (r .1);
-      link-value = eqb-true _ _ (q .1);
-      link-stamp = ltb-true _ _ (p .1);
-    }
+later-facts values stamp slots i e = search (told, positive) depth 12
 
 pub later-made : (values stamp : ℕ) (slots : List ℕ) (i : ℕ) → LaterSlot values stamp slots i → laterSlotFits values stamp slots i ≡ true
 unfolding laterSlotFits
-later-made values stamp slots i f =
-    and-both _ _
-    (and-both _ _
-    (and-both _ _
-    (and-both _ _ (and-both _ _ (lt-ltb _ _ (f .value-low)) (le-leb _ _ (f .stamp-low))) (not-zero (slotLink slots i) (f .linked)))
-    (le-leb _ _ (f .link-low)))
-    (eq-eqb _ _ (f .link-value)))
-    (lt-ltb _ _ (f .link-stamp))
+later-made values stamp slots i f = search (made, not-zero) depth 12
 
 -- any slot: its link falls, it has none only at stamp 0, and a link keeps the value and lowers the stamp
 pub record SlotFacts (values stamp : ℕ) (slots : List ℕ) (i : ℕ) : Type 0 where
@@ -117,15 +94,11 @@ module _ (c slots : List ℕ) where
 
   pub each-first : slotsFit c slots ≡ true → (i : ℕ) → i < valuesIn c → i < slotsIn c → FirstSlot slots i
   unfolding slotFits
-  each-first e i h l =
-      first-facts slots i
-      (ap (λ (t : Bool). cond t (firstSlotFits slots i) (laterSlotFits (valuesIn c) (stampIn c) slots i)) (sym (lt-ltb i (valuesIn c) h)) ∙ slot-at e i l)
+  each-first e i h l = first-facts slots i (rw (lt-ltb i (valuesIn c) h) at (slot-at e i l))
 
   pub each-later : slotsFit c slots ≡ true → (i : ℕ) → valuesIn c ≤ i → i < slotsIn c → LaterSlot (valuesIn c) (stampIn c) slots i
   unfolding slotFits
-  each-later e i h l =
-      later-facts (valuesIn c) (stampIn c) slots i
-      (ap (λ (t : Bool). cond t (firstSlotFits slots i) (laterSlotFits (valuesIn c) (stampIn c) slots i)) (sym (le-ltb i (valuesIn c) h)) ∙ slot-at e i l)
+  each-later e i h l = later-facts (valuesIn c) (stampIn c) slots i (rw (le-ltb i (valuesIn c) h) at (slot-at e i l))
 
   pub each-slot : slotsFit c slots ≡ true → (i : ℕ) → i < slotsIn c → SlotFacts (valuesIn c) (stampIn c) slots i
   each-slot e i l =
@@ -137,13 +110,8 @@ module _ (c slots : List ℕ) where
   unfolding slotsFit slotFits
   slots-made f g =
       all-of (slotFits (valuesIn c) (stampIn c) slots) (slotsIn c)
-      (λ i l. ⊎-elim
-      (λ (h : i < valuesIn c).
-      ap (λ (t : Bool). cond t (firstSlotFits slots i) (laterSlotFits (valuesIn c) (stampIn c) slots i)) (lt-ltb i (valuesIn c) h)
-      ∙ first-made slots i (f i h l))
-      (λ (h : valuesIn c ≤ i).
-      ap (λ (t : Bool). cond t (firstSlotFits slots i) (laterSlotFits (valuesIn c) (stampIn c) slots i)) (le-ltb i (valuesIn c) h)
-      ∙ later-made (valuesIn c) (stampIn c) slots i (g i h l))
+      (λ i l. ⊎-elim (λ (h : i < valuesIn c). rw (lt-ltb i (valuesIn c) h) (first-made slots i (f i h l)))
+      (λ (h : valuesIn c ≤ i). rw (le-ltb i (valuesIn c) h) (later-made (valuesIn c) (stampIn c) slots i (g i h l)))
       (lt-cases i (valuesIn c)))
 
 -- the links are below the slots in use, along them the value stays and the stamp falls
@@ -175,11 +143,11 @@ pub record HeadFacts (used : ℕ) (slots heads : List ℕ) (v : ℕ) : Type 0 wh
 
 pub head-facts : (used : ℕ) (slots heads : List ℕ) (v : ℕ) → headFits used slots heads v ≡ true → HeadFacts used slots heads v
 unfolding headFits
-head-facts used slots heads v e = let p = both _ _ e in record { head-low = ltb-true _ _ (p .0); head-value = eqb-true _ _ (p .1) }
+head-facts used slots heads v e = search told
 
 pub head-made : (used : ℕ) (slots heads : List ℕ) (v : ℕ) → HeadFacts used slots heads v → headFits used slots heads v ≡ true
 unfolding headFits
-head-made used slots heads v f = and-both _ _ (lt-ltb _ _ (f .head-low)) (eq-eqb _ _ (f .head-value))
+head-made used slots heads v f = search made
 
 module _ (c slots heads : List ℕ) where
   pub each-head : headsFit c slots heads ≡ true → (v : ℕ) → v < valuesIn c → HeadFacts (slotsIn c) slots heads v
@@ -202,14 +170,16 @@ length-slotWords words i h room = part-length 32 (32 * i) words (omega arith)
 part-words : (n a : ℕ) (l : List ℕ) → Words l → Words (take n (drop a l))
 part-words n a l w i =
     ⊎-elim (λ (h : i < n). subst (λ (x : ℕ). x < 2 ^ 64) (sym (getD-take n (drop a l) i 0 h ∙ getD-drop a l i 0)) (w (a + i)))
-    (λ (h : n ≤ i). subst (λ (x : ℕ). x < 2 ^ 64) (sym (List·getD-eq-default (take n (drop a l)) 0 (omega (arith, length-take n (drop a l))))) (lit< tt)) (lt-cases i n)
+    (λ (h : n ≤ i). subst (λ (x : ℕ). x < 2 ^ 64)
+    (sym (List·getD-eq-default (take n (drop a l)) 0 (omega (arith, length-take n (drop a l))))) (lit< tt)) (lt-cases i n)
 
 pub words-slotWords : (words : List ℕ) (i : ℕ) → Words words → Words (slotWords words i)
 unfolding slotWords
 words-slotWords words i w = part-words 32 (32 * i) words w
 
 module _ (c log slots words : List ℕ) where
-  pub each-vector : vectorsFit c log slots words ≡ true → (i : ℕ) → i < slotsIn c → tailClear (slotWords words i) (rowsAt (firstIn c) log (slotStamp slots i)) ≡ true
+  pub each-vector : vectorsFit c log slots words ≡ true → (i : ℕ) → i < slotsIn c
+      → tailClear (slotWords words i) (rowsAt (firstIn c) log (slotStamp slots i)) ≡ true
   unfolding vectorsFit vectorFits
   each-vector e i l = all-at (vectorFits (firstIn c) log slots words) (slotsIn c) e i l
 

@@ -170,10 +170,12 @@ module _ (changes : List ℕ) (p row flips : ℕ) where
   -- the changes before p, and with p at their end
   pub stretch-kept : p < 2048 → (a b : ℕ) → b ≤ p → stretch (changeAt (putChange changes p row flips)) a b ≡ stretch (changeAt changes) a b
   stretch-kept l a b h =
-      stretch-same (changeAt (putChange changes p row flips)) (changeAt changes) a b (λ j m n. kept-change l j (omega arith) (λ e. omega arith))
+      stretch-same (changeAt (putChange changes p row flips)) (changeAt changes) a b
+      (λ j m n. kept-change l j (omega arith) (λ e. omega arith))
 
   pub stretch-put : p < 2048 → 4096 ≤ length changes → (a : ℕ) → a ≤ p
-      → stretch (changeAt (putChange changes p row flips)) a (p + 1) ≡ stretch (changeAt changes) a p ++ (record { row = row; flips = flips } ∷ [])
+      → stretch (changeAt (putChange changes p row flips)) a (p + 1)
+      ≡ stretch (changeAt changes) a p ++ (record { row = row; flips = flips } ∷ [])
   stretch-put l room a h =
       stretch-more (changeAt (putChange changes p row flips)) a p h
       ∙ ap₂ (λ (xs : List Change) (x : Change). xs ++ (x ∷ [])) (stretch-kept l a p (omega arith)) (put-change l room)
@@ -190,7 +192,8 @@ module _ (c log changes : List ℕ) (e : recordsFit c log ≡ true) (l : stampIn
         kept-rows log (stampIn c) kind rows end l k h,
         kept-end log (stampIn c) kind rows end l k h,
         end-kept log (stampIn c) kind rows end l k (omega arith),
-        stretch-same (changeAt changes′) (changeAt changes) (endAt log k) (endAt log (suc k)) (λ j m n. same j (omega (arith, end-high c log e (suc k) h))),
+        stretch-same (changeAt changes′) (changeAt changes) (endAt log k) (endAt log (suc k))
+            (λ j m n. same j (omega (arith, end-high c log e (suc k) h))),
       )
 
   new-record : 2048 ≤ length log
@@ -208,11 +211,13 @@ module _ (c log changes : List ℕ) (e : recordsFit c log ≡ true) (l : stampIn
 
   pub log-grown : 2048 ≤ length log
       → tab (recordAt (putRecord log (stampIn c) kind rows end) changes′) (stampIn c + 1)
-      ≡ tab (recordAt log changes) (stampIn c) ++ (record { kind = kindOf kind; rows = rows; changes = stretch (changeAt changes′) (changesIn c) end } ∷ [])
+      ≡ tab (recordAt log changes)
+      (stampIn c) ++ (record { kind = kindOf kind; rows = rows; changes = stretch (changeAt changes′) (changesIn c) end } ∷ [])
   log-grown room =
       tab-more (recordAt (putRecord log (stampIn c) kind rows end) changes′) (stampIn c)
       ∙ ap₂ (λ (xs : List Record) (x : Record). xs ++ (x ∷ []))
-      (tab-ext (recordAt (putRecord log (stampIn c) kind rows end) changes′) (recordAt log changes) (stampIn c) old-record) (new-record room)
+      (tab-ext (recordAt (putRecord log (stampIn c) kind rows end) changes′) (recordAt log changes) (stampIn c) old-record)
+      (new-record room)
 
 -- ---- sessions
 
@@ -226,7 +231,8 @@ begun-means s n = refl
 
 -- one session stored
 pub session-put : (t : Tables) (i : ℕ) (x : Session) → i < 16 → 16 ≤ length (t .sessions)
-    → meaning (tables (t .clock) (t .slots) (t .words) (t .heads) (t .log) (t .changes) (set (t .sessions) i x)) ≡ seated (meaning t) i (sessionOf x)
+    → meaning (tables (t .clock) (t .slots) (t .words) (t .heads) (t .log) (t .changes) (set (t .sessions) i x))
+    ≡ seated (meaning t) i (sessionOf x)
 unfolding meaning
 session-put t i x h room =
     rw (

@@ -1,4 +1,4 @@
--- Laws of a stretch of places: none, one more, two joined, its elements, and what a store outside it leaves.
+-- Laws of a stretch of places: none, one more, two joined, its elements.
 -- Assumes nothing.
 use mathlib.Core.Path.{_≡_, sym, ap, _∙_}
 use mathlib.Core.List.{List, [], _∷_, _++_, append-nil, append-assoc}
@@ -38,10 +38,6 @@ module _ {A : Type 0} where
   unfolding stretch
   length-stretch f a b = length-tab (λ k. f (a + k)) (b - a)
 
-  pub getD-stretch : (f : ℕ → A) (a b i : ℕ) (d : A) → a + i < b → getD (stretch f a b) i d ≡ f (a + i)
-  unfolding stretch
-  getD-stretch f a b i d h = getD-tab (λ k. f (a + k)) (b - a) i d (omega arith)
-
   -- a table is the stretch from 0 on
   pub tab-stretch : (f : ℕ → A) (n : ℕ) → tab f n ≡ stretch f 0 n
   unfolding stretch
@@ -53,7 +49,8 @@ module _ {A : Type 0} where
   stretch-join f a b zero p q = let e : b ≡ 0 = omega arith in rw (e, stretch-none f 0 0 (omega arith), append-nil)
   stretch-join f a b (suc c) p q = go (eq-or-lt-of-le q) (λ h. stretch-join f a b c p h)
     where
-      go : (b ≡ suc c) ⊎ (b < suc c) → (b ≤ c → stretch f a b ++ stretch f b c ≡ stretch f a c) → stretch f a b ++ stretch f b (suc c) ≡ stretch f a (suc c)
+      go : (b ≡ suc c) ⊎ (b < suc c) → (b ≤ c → stretch f a b ++ stretch f b c ≡ stretch f a c)
+          → stretch f a b ++ stretch f b (suc c) ≡ stretch f a (suc c)
       go (inl e) ih = rw (stretch-none f b (suc c) (omega arith), append-nil, e)
       go (inr l) ih =
           rw (
@@ -94,12 +91,6 @@ module _ {A : Type 0} where
       at : (k : ℕ) → k < n → getD (tab g n) k d ≡ getD (set (tab f n) i (g i)) k d
       at k m =
           getD-tab g n k d m
-          ∙ ⊎-elim (λ (e : k ≡ i). ap g e ∙ sym (ap (λ (j : ℕ). getD (set (tab f n) i (g i)) j d) e ∙ getD-set-same (tab f n) i (g i) d (omega (arith, length-tab f n))))
+          ∙ ⊎-elim (λ (e : k ≡ i). ap g e
+          ∙ sym (ap (λ (j : ℕ). getD (set (tab f n) i (g i)) j d) e ∙ getD-set-same (tab f n) i (g i) d (omega (arith, length-tab f n))))
           (λ (q : k ≡ i → ⊥). h k m q ∙ sym (getD-set-other (tab f n) i k (g i) d q ∙ getD-tab f n k d m)) (eq-cases k i)
-
--- a stretch of a list's elements after a store outside it
-pub stretch-set : {A B : Type 0} (g : ℕ → B → A) (l : List B) (i : ℕ) (x d : B) (a b : ℕ) → (i < a) ⊎ (b ≤ i)
-    → stretch (λ p. g p (getD (set l i x) p d)) a b ≡ stretch (λ p. g p (getD l p d)) a b
-stretch-set {A} {B} g l i x d a b o =
-    stretch-same (λ p. g p (getD (set l i x) p d)) (λ p. g p (getD l p d)) a b
-    (λ j m n. ap (g j) (getD-set-other l i j x d (λ e. ⊎-elim (λ (u : i < a). omega arith) (λ (u : b ≤ i). omega arith) o)))

@@ -41,10 +41,12 @@ module _ (t : Tables) (p : Parts t) where
   chains-fall v h =
       let d = each-head (t .clock) (t .slots) (t .heads) (p .heads-fit) v h in
       rw (stamp-means t, chain-means t v h)
-      (chain-falls (t .clock) (t .slots) (t .words) (p .slots-fit) (headOf (t .heads) v + 1) (headOf (t .heads) v) (suc (stampIn (t .clock))) (d .head-low) (omega arith)
+      (chain-falls (t .clock) (t .slots) (t .words) (p .slots-fit) (headOf (t .heads) v + 1) (headOf (t .heads) v)
+      (suc (stampIn (t .clock))) (d .head-low) (omega arith)
       (omega (arith, slot-stamp-low (t .clock) (t .slots) (p .slots-fit) (headOf (t .heads) v) (d .head-low))))
 
-  slot-vector : (i : ℕ) → i < slotsIn (t .clock) → (r : ℕ) → log.rowsAt (meaning t .first) (meaning t .log) (versionAt (t .slots) (t .words) i .stamp) ≤ r
+  slot-vector : (i : ℕ) → i < slotsIn (t .clock) → (r : ℕ)
+      → log.rowsAt (meaning t .first) (meaning t .log) (versionAt (t .slots) (t .words) i .stamp) ≤ r
       → versionAt (t .slots) (t .words) i .vector r ≡ false
   unfolding versionAt
   slot-vector i l r h =
@@ -55,7 +57,8 @@ module _ (t : Tables) (p : Parts t) where
   unfolding chainAt
   vectors-fit v h =
       rw (chain-means t v h)
-      (chain-vectors (t .clock) (t .slots) (t .words) (p .slots-fit) (meaning t .first) (meaning t .log) slot-vector (headOf (t .heads) v + 1) (headOf (t .heads) v)
+      (chain-vectors (t .clock) (t .slots) (t .words) (p .slots-fit) (meaning t .first) (meaning t .log) slot-vector
+      (headOf (t .heads) v + 1) (headOf (t .heads) v)
       (each-head (t .clock) (t .slots) (t .heads) (p .heads-fit) v h .head-low))
 
   -- an open session
@@ -71,18 +74,22 @@ module _ (t : Tables) (p : Parts t) where
         (entries-once (valuesIn (t .clock)) (firstIn (t .clock)) (stampIn (t .clock)) (t .log) x f (x .count) 0 (omega arith));
     fit =
         rw (tab-stretch (entryAt x) (x .count))
-        (entries-fit (valuesIn (t .clock)) (firstIn (t .clock)) (stampIn (t .clock)) (t .log) x f (clock-limits (t .clock) (p .clock-fits) .few-values)
+        (entries-fit (valuesIn (t .clock)) (firstIn (t .clock)) (stampIn (t .clock)) (t .log) x f
+        (clock-limits (t .clock) (p .clock-fits) .few-values)
         (open-rows-few (t .clock) (t .log) (p .clock-fits) (p .records-fit) x f) (x .count) 0 (omega arith));
   }
 
   -- any session
   session-fits : (i : ℕ) → SessionFits (valuesIn (t .clock)) (meaning t .first) (meaning t .log) (session (meaning t) i)
-  session-fits i = ⊎-elim (λ (l : i < 16). at l (eq-cases (sessionAt (t .sessions) i .live) 1)) (λ (l : 16 ≤ i). rw (session-past t i l) tt) (lt-cases i 16)
+  session-fits i =
+      ⊎-elim (λ (l : i < 16). at l (eq-cases (sessionAt (t .sessions) i .live) 1)) (λ (l : 16 ≤ i). rw (session-past t i l) tt)
+      (lt-cases i 16)
     where
       x : Session
       x = sessionAt (t .sessions) i
 
-      at : i < 16 → (x .live ≡ 1) ⊎ (x .live ≡ 1 → ⊥) → SessionFits (valuesIn (t .clock)) (meaning t .first) (meaning t .log) (session (meaning t) i)
+      at : i < 16 → (x .live ≡ 1) ⊎ (x .live ≡ 1 → ⊥)
+          → SessionFits (valuesIn (t .clock)) (meaning t .first) (meaning t .log) (session (meaning t) i)
       at l (inl e) =
           rw (session-means t i l, open-means x e) (open-fits x (open-at (t .clock) (t .log) (t .sessions) (p .sessions-fit) i l e))
       at l (inr n) = rw (session-means t i l, free-means x n) tt

@@ -1,6 +1,6 @@
 -- What the lent tables mean: a state of the rules.
 -- Assumes nothing.
-use mathlib.Core.Bool.{Bool, true, false, cond}
+use mathlib.Core.Bool.{cond}
 use mathlib.Core.Option.{Option, none, some}
 use mathlib.Core.List.{List, [], _∷_}
 use Prim.Native.Nat.{ℕ, zero, suc, _+_, _-_}
@@ -26,7 +26,11 @@ kindOf n = cond (eqb n 1) commits tidies
 -- record k + 1: "its changes start where those before ended"
 unfoldable pub recordAt : List ℕ → List ℕ → ℕ → Record
 recordAt log changes k =
-    record { kind = kindOf (recordKind log k); rows = recordRows log k; changes = stretch (changeAt changes) (endAt log k) (endAt log (suc k)) }
+    record {
+      kind = kindOf (recordKind log k);
+      rows = recordRows log k;
+      changes = stretch (changeAt changes) (endAt log k) (endAt log (suc k));
+    }
 
 -- a version: "row r is bit r mod 64 (bit 0 lowest) of word r div 64"
 unfoldable pub versionAt : List ℕ → List ℕ → ℕ → Version

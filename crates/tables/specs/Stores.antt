@@ -22,7 +22,8 @@ putChange changes p row flips = set (set changes p row) (2048 + p) flips
 
 -- the clock's six cells: the record of four, the slots and the changes in use
 unfoldable pub putClock : List ℕ → ℕ → ℕ → ℕ → ℕ → ℕ → ℕ → List ℕ
-putClock clock values first stamp rows slots changes = set (set (set (set (set (set clock 0 values) 1 first) 2 stamp) 3 rows) 4 slots) 5 changes
+putClock clock values first stamp rows slots changes =
+    set (set (set (set (set (set clock 0 values) 1 first) 2 stamp) 3 rows) 4 slots) 5 changes
 
 -- the stamp and the row count; the slots in use; the changes in use
 unfoldable pub putMoment : List ℕ → ℕ → ℕ → List ℕ

@@ -4,18 +4,10 @@ use crate::counts::Row;
 use crate::counts::Stamp;
 use crate::counts::Value;
 ghost use mathlib.Core.Path.{_≡_};
-ghost use Prim.Native.Nat.{_+_, _*_, _<_, _≤_};
-ghost use lib.ListN.{length, getD, set};
-ghost use Rattle.tables.specs.Cells.{slotValue, slotStamp, slotLink, headOf, endAt, rowsAt, changeRow, changeSet};
+ghost use Prim.Native.Nat.{_+_, _<_, _≤_};
+ghost use lib.ListN.{length, set};
+ghost use Rattle.tables.specs.Cells.{slotStamp, slotLink, headOf, endAt, rowsAt, changeRow, changeSet};
 ghost use Rattle.tables.specs.Stores.{putSlot, putHead, putRecord, putChange};
-
-// The value of slot i.
-pub fn slot_value(slots: &[u32], i: usize) -> Value
-    requires { ⌜ (i < 96) × (288 ≤ length (now slots)) ⌝ }
-    ensures { λ r. ⌜ r .0 ≡ slotValue (now (slots .entry)) i ⌝ }
-{
-    Value(slots[i])
-}
 
 // The stamp of slot i.
 pub fn slot_stamp(slots: &[u32], i: usize) -> Stamp

@@ -18,7 +18,6 @@ pub use cells::put_slot;
 pub use cells::rows_at;
 pub use cells::slot_link;
 pub use cells::slot_stamp;
-pub use cells::slot_value;
 pub use clock::Clock;
 pub use clock::advanced;
 pub use clock::changes_used;

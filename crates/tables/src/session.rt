@@ -2,7 +2,7 @@
 use crate::counts::Row;
 use crate::counts::Stamp;
 ghost use mathlib.Core.Path.{_≡_};
-ghost use Prim.Native.Nat.{_<_, _≤_};
+ghost use Prim.Native.Nat.{_<_};
 ghost use Rattle.tables.specs.Sessions.{freed, begun, withEntry};
 
 // The row cell of an entry that is an insert.

@@ -20,7 +20,7 @@ use Rattle.tables.specs.Clock.{clockIn, later}
 use Rattle.tables.specs.Meaning.{changeAt}
 use Rattle.tables.specs.Stores.{putSlot, putHead, putRecord}
 use Rattle.tables.specs.Stretch.{stretch}
-use Rattle.damage.specs.Room.{Roomy}
+use Rattle.tables.specs.Room.{Roomy}
 use Rattle.history.specs.Version.{Headed, Based}
 use Rattle.history.specs.Last.{lastSet}
 use Rattle.history.specs.Flips.{flippedIn, RowsLow}

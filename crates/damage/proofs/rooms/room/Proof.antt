@@ -1,7 +1,7 @@
 -- `room` meets its contract: the seven lengths, compared in the order of the definition.
 -- Assumes nothing.
 use mathlib.Core.Path.{refl}
-use Rattle.damage.specs.Room.{roomFor}
+use Rattle.tables.specs.Room.{roomFor}
 use Rattle.damage.proofs.rooms.room.Statement.{statement}
 use Rattle.damage.proofs.rooms.room.Tie as tie
 

@@ -6,7 +6,7 @@ use Prim.Native.Nat.{_-_}
 use native.Mathlib.Omega.{arith}
 use Rattle.bits.specs.All.{allBelow}
 use Rattle.tables.specs.Damage.{allIn, firstSlotFits}
-use Rattle.damage.proofs.Fold.{below-in, fold-again, fold-end}
+use Rattle.tables.proofs.Fold.{below-in, fold-again, fold-end}
 use Rattle.damage.proofs.slots.first_slots_fit.Statement.{statement}
 use Rattle.damage.proofs.slots.first_slots_fit.Tie as tie
 
@@ -16,33 +16,8 @@ Inv-loop slots n ok₀ i₀ ok i = allBelow (firstSlotFits slots) n ≡ ok && al
 abbrev μ-loop : tie.MeasureT-loop
 μ-loop slots n ok₀ i₀ ok i = n - i
 
-loop-holds : tie.Need-loop-holds Inv-loop μ-loop
-loop-holds c = search below-in
-
-first-slot-fits-requires : tie.Need-first-slot-fits-requires Inv-loop μ-loop
-first-slot-fits-requires c κs = omega arith
-
-add-i : tie.Need-add-i Inv-loop μ-loop
-add-i c = omega arith
-
-loop-less : tie.Need-loop-less Inv-loop μ-loop
-loop-less c = omega arith
-
-loop-again : tie.Need-loop-again Inv-loop μ-loop
-loop-again c = search fold-again
-
-returns : tie.Need-returns Inv-loop μ-loop
-returns c = search fold-end
-
 pub first-slots-fit-spec : {M : Type 1} → statement M
 first-slots-fit-spec =
     tie.close
-    (tie.spec
-    Inv-loop
-    μ-loop
-    loop-holds
-    first-slot-fits-requires
-    add-i
-    loop-less
-    loop-again
-    returns)
+    (tie.spec Inv-loop μ-loop (λ c. search below-in) (omega arith) (omega arith) (omega arith) (λ c. search fold-again)
+    (λ c. search fold-end))

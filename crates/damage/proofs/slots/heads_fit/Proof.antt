@@ -5,61 +5,24 @@ use Prim.Native.Nat.{_-_, _≤_}
 use native.Mathlib.Omega.{arith}
 use borrow.Author.Needs.{needs}
 use Rattle.tables.specs.Damage.{allIn, headFits, headsFit}
-use Rattle.damage.proofs.ClockLaws.{low-values, low-slots}
-use Rattle.damage.proofs.Fold.{scan-again, scan-fails, scan-end}
+use Rattle.tables.proofs.ClockLaws.{low-values, low-slots}
+use Rattle.tables.proofs.Fold.{scan-again, scan-fails, scan-end}
 use Rattle.damage.proofs.SlotLaws.{all-heads}
 use Rattle.damage.proofs.slots.heads_fit.Statement.{statement}
 use Rattle.damage.proofs.slots.heads_fit.Tie as tie
 
 abbrev Inv-loop : tie.InvT-loop
-Inv-loop clock slots heads values used v₀ v = (values ≤ 32) × (used ≤ 96) × (headsFit clock slots heads ≡ allIn (headFits used slots heads) v values)
+Inv-loop clock slots heads values used v₀ v =
+    (values ≤ 32) × (used ≤ 96) × (headsFit clock slots heads ≡ allIn (headFits used slots heads) v values)
 
 abbrev μ-loop : tie.MeasureT-loop
 μ-loop clock slots heads values used v₀ v = values - v
 
-shared-slice-read-values : tie.Need-shared-slice-read-values Inv-loop μ-loop
-shared-slice-read-values c = search needs
-
-slots-used-requires : tie.Need-slots-used-requires Inv-loop μ-loop
-slots-used-requires c κs = search needs
-
-wide-requires : tie.Need-wide-requires Inv-loop μ-loop
-wide-requires c κs = search needs
-
 loop-holds : tie.Need-loop-holds Inv-loop μ-loop
 loop-holds c = (search low-values, search low-slots, search all-heads)
-
-head-fits-requires : tie.Need-head-fits-requires Inv-loop μ-loop
-head-fits-requires c κs = omega arith
-
-returns : tie.Need-returns Inv-loop μ-loop
-returns c = search scan-fails
-
-add-v : tie.Need-add-v Inv-loop μ-loop
-add-v c = omega arith
-
-loop-less : tie.Need-loop-less Inv-loop μ-loop
-loop-less c = omega arith
-
-loop-again : tie.Need-loop-again Inv-loop μ-loop
-loop-again c = (omega arith, omega arith, search scan-again)
-
-returns-2 : tie.Need-returns-2 Inv-loop μ-loop
-returns-2 c = search scan-end
 
 pub heads-fit-spec : {M : Type 1} → statement M
 heads-fit-spec =
     tie.close
-    (tie.spec
-    Inv-loop
-    μ-loop
-    shared-slice-read-values
-    slots-used-requires
-    wide-requires
-    loop-holds
-    head-fits-requires
-    returns
-    add-v
-    loop-less
-    loop-again
-    returns-2)
+    (tie.spec Inv-loop μ-loop (search needs) (search needs) (search needs) loop-holds (omega arith) (λ c. search scan-fails)
+    (omega arith) (omega arith) (λ c. (omega arith, omega arith, search scan-again)) (λ c. search scan-end))

@@ -2,40 +2,13 @@
 -- Assumes nothing.
 use native.Mathlib.Omega.{arith}
 use borrow.Author.Needs.{needs}
-use Rattle.damage.proofs.ClockLaws.{low-first-slots, low-slots}
+use Rattle.tables.proofs.ClockLaws.{low-first-slots, low-slots}
 use Rattle.damage.proofs.SlotLaws.{all-slots}
 use Rattle.damage.proofs.slots.slots_fit.Statement.{statement}
 use Rattle.damage.proofs.slots.slots_fit.Tie as tie
 
-clock-of-requires : tie.Need-clock-of-requires
-clock-of-requires c κs = search needs
-
-slots-used-requires : tie.Need-slots-used-requires
-slots-used-requires c κs = search needs
-
-wide-requires : tie.Need-wide-requires
-wide-requires c κs = search needs
-
-wide-requires-2 : tie.Need-wide-requires-2
-wide-requires-2 c κs = search needs
-
-first-slots-fit-requires : tie.Need-first-slots-fit-requires
-first-slots-fit-requires c κs = (search low-first-slots, omega arith)
-
-later-slots-fit-requires : tie.Need-later-slots-fit-requires
-later-slots-fit-requires c κs = (search low-slots, omega arith)
-
-returns : tie.Need-returns
-returns c = search all-slots
-
 pub slots-fit-spec : {M : Type 1} → statement M
 slots-fit-spec =
     tie.close
-    (tie.spec
-    clock-of-requires
-    slots-used-requires
-    wide-requires
-    wide-requires-2
-    first-slots-fit-requires
-    later-slots-fit-requires
-    returns)
+    (tie.spec (search needs) (search needs) (search needs) (search needs) (λ c κs. (search low-first-slots, omega arith))
+    (λ c κs. (search low-slots, omega arith)) (λ c. search all-slots))

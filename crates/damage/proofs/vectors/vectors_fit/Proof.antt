@@ -2,44 +2,19 @@
 -- Assumes nothing.
 use native.Mathlib.Omega.{arith}
 use borrow.Author.Needs.{needs}
-use Rattle.damage.proofs.ClockLaws.{low-slots}
+use Rattle.tables.proofs.ClockLaws.{low-slots}
 use Rattle.damage.proofs.VectorLaws.{room-for, stamps-low, clear-from-first, each-vector}
 use Rattle.damage.proofs.vectors.vectors_fit.Statement.{statement}
 use Rattle.damage.proofs.vectors.vectors_fit.Tie as tie
 
-clock-of-requires : tie.Need-clock-of-requires
-clock-of-requires c κs = search needs
-
-slots-used-requires : tie.Need-slots-used-requires
-slots-used-requires c κs = search needs
-
-wide-requires : tie.Need-wide-requires
-wide-requires c κs = search needs
-
-wide-requires-2 : tie.Need-wide-requires-2
-wide-requires-2 c κs = search needs
-
 tails-clear-requires : tie.Need-tails-clear-requires
 tails-clear-requires c κs = search (room-for, low-slots)
-
-returns : tie.Need-returns
-returns c = search clear-from-first
 
 each-vector-fits-requires : tie.Need-each-vector-fits-requires
 each-vector-fits-requires c κs = (search low-slots, omega arith, omega arith, omega arith, search stamps-low)
 
-returns-2 : tie.Need-returns-2
-returns-2 c = search each-vector
-
 pub vectors-fit-spec : {M : Type 1} → statement M
 vectors-fit-spec =
     tie.close
-    (tie.spec
-    clock-of-requires
-    slots-used-requires
-    wide-requires
-    wide-requires-2
-    tails-clear-requires
-    returns
-    each-vector-fits-requires
-    returns-2)
+    (tie.spec (search needs) (search needs) (search needs) (search needs) tails-clear-requires (λ c. search clear-from-first)
+    each-vector-fits-requires (λ c. search each-vector))

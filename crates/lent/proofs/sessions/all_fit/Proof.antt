@@ -12,7 +12,7 @@ use Rattle.bits.specs.All.{allBelow, all-none, all-more}
 use Rattle.tables.specs.declared.session.Session.{Session}
 use Rattle.tables.specs.declared.clock.Clock.{Clock}
 use Rattle.tables.specs.Sessions.{sessionAt}
-use Rattle.damage.specs.Judged.{sessionJudged}
+use Rattle.session_damage.specs.Judged.{sessionJudged}
 use Rattle.lent.specs.Places.{seatAt, seat-near}
 use Rattle.lent.specs.Seats.{allFit}
 use Rattle.lent.proofs.sessions.limit.Symbol as limit-def

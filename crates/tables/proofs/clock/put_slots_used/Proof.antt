@@ -6,15 +6,9 @@ use borrow.Author.Needs.{needs}
 use Rattle.tables.proofs.clock.put_slots_used.Statement.{statement}
 use Rattle.tables.proofs.clock.put_slots_used.Tie as tie
 
-slice-write-clock : tie.Need-slice-write-clock
-slice-write-clock c = search needs
-
-same-length : tie.Need-same-length
-same-length c = search needs
-
 returns : tie.Need-returns
 unfolding putSlotsUsed
 returns c = refl
 
 pub put-slots-used-spec : {M : Type 1} → statement M
-put-slots-used-spec = tie.close (tie.spec slice-write-clock same-length returns)
+put-slots-used-spec = tie.close (tie.spec (λ c. search needs) (search needs) returns)

@@ -6,18 +6,9 @@ use borrow.Author.Needs.{needs}
 use Rattle.tables.proofs.session.with_entry.Statement.{statement}
 use Rattle.tables.proofs.session.with_entry.Tie as tie
 
-mul-next : tie.Need-mul-next
-mul-next c = search needs
-
-element-write-next : tie.Need-element-write-next
-element-write-next c = search needs
-
-element-write-next-2 : tie.Need-element-write-next-2
-element-write-next-2 c = search needs
-
 returns : tie.Need-returns
 unfolding withEntry
 returns c = refl
 
 pub with-entry-spec : {M : Type 1} → statement M
-with-entry-spec = tie.close (tie.spec mul-next element-write-next element-write-next-2 returns)
+with-entry-spec = tie.close (tie.spec (search needs) (search needs) (search needs) returns)

@@ -1,0 +1,4 @@
+-- The laws of changes that belong to no one function.
+-- Assumes nothing.
+pub mod GatherLaws
+pub mod ChangeLaws

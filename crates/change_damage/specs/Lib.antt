@@ -1,0 +1,3 @@
+-- What the contracts of the judgement of changes cite.
+-- Assumes nothing.
+pub mod Parts

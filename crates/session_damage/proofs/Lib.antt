@@ -1,0 +1,7 @@
+-- The laws of a session's judgement that belong to no one function.
+-- Assumes nothing.
+pub mod StartLaws
+pub mod OnceLaws
+pub mod EntryLaws
+pub mod PlainLaws
+pub mod JudgedLaws

@@ -1,0 +1,4 @@
+-- What the contracts of the judgement of one session cite.
+-- Assumes nothing.
+pub mod Parts
+pub mod Judged
