@@ -10,7 +10,7 @@ use native.Mathlib.Omega.{arith}
 use borrow.Author.Tests.{leb-true, leb-false, le-leb, eqb-true, not-false, lt-ltb, le-ltb}
 use lib.Dec.{leb, eqb}
 use lib.ListN.{length, replicate, length-replicate, getD-replicate}
-use Rattle.bits.specs.Cases.{lt-cases}
+use Rattle.bits.proofs.Cases.{lt-cases}
 use Rattle.rules.specs.State.{session, isFree, startOf, rowsOf, listOf}
 use Rattle.rules.specs.Limits.{maxSessions}
 use Rattle.rules.specs.Calls.{Call}

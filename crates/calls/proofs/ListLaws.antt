@@ -9,8 +9,10 @@ use native.Mathlib.Omega.{arith}
 use borrow.Author.Tests.{eq-eqb, ne-eqb}
 use lib.Dec.{eqb}
 use lib.ListN.{length, getD, length-append}
-use Rattle.bits.specs.Rows.{smallestBelow, smallest-zero, smallest-here, smallest-past}
-use Rattle.bits.specs.Tab.{tab, tab-more}
+use Rattle.bits.specs.Rows.{smallestBelow}
+use Rattle.bits.proofs.RowLaws.{smallest-zero, smallest-here, smallest-past}
+use Rattle.bits.specs.Tab.{tab}
+use Rattle.bits.proofs.TabLaws.{tab-more}
 use Rattle.rules.specs.State.{Entry, alter, add}
 use Rattle.rules.specs.Lists.{inserts}
 use Rattle.rules.specs.Commit.{rowChanges}

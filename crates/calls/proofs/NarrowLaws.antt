@@ -11,7 +11,7 @@ use native.Mathlib.Omega.{arith}
 use borrow.Author.Tests.{lt-ltb, le-ltb, le-leb}
 use lib.Dec.{leb, leb→le}
 use lib.ListN.{length}
-use Rattle.bits.specs.Cases.{lt-cases}
+use Rattle.bits.proofs.Cases.{lt-cases}
 use Rattle.rules.specs.State.{Session, session, rowsOf}
 use Rattle.rules.specs.Calls.{Call, query, read, update, delete, insert, tidy}
 use Rattle.rules.specs.Refusals.{Test, firstOf, noSession, notOpen, noValue, noRow, tests}

@@ -9,9 +9,10 @@ use Prim.Native.Nat.{ℕ, zero, suc, _≤_, _<_}
 use native.Mathlib.Omega.{arith}
 use borrow.Author.Tests.{ne-eqb}
 use lib.ListN.{getD}
-use Rattle.bits.specs.Cases.{eq-cases}
+use Rattle.bits.proofs.Cases.{eq-cases}
 use Rattle.bits.specs.Choice.{orElse}
-use Rattle.bits.specs.Rows.{smallestBelow, smallest-some}
+use Rattle.bits.specs.Rows.{smallestBelow}
+use Rattle.bits.proofs.RowLaws.{smallest-some}
 use Rattle.bits.specs.Tab.{tab}
 use Rattle.rules.specs.State.{session, startOf, rowsOf, listOf, opened, Entry}
 use Rattle.rules.specs.Lists.{target, lists}

@@ -9,9 +9,11 @@ use native.Mathlib.Nat.{eq-or-lt-of-le, le-of-suc-le-suc}
 use native.Mathlib.Numerals.{add-one}
 use native.Mathlib.Omega.{arith}
 use borrow.Author.Tests.{lt-ltb, ltb-true, not-true, not-false}
-use Rattle.bits.specs.All.{allBelow, all-at, all-of}
-use Rattle.bits.specs.Cases.{same-truth}
-use Rattle.bits.specs.Sets.{setBelow, below-lt, lt-below}
+use Rattle.bits.specs.All.{allBelow}
+use Rattle.bits.proofs.AllLaws.{all-at, all-of}
+use Rattle.bits.proofs.Cases.{same-truth}
+use Rattle.bits.specs.Sets.{setBelow}
+use Rattle.bits.proofs.SetLaws.{below-lt, lt-below}
 use Rattle.tables.specs.declared.clock.Clock.{Clock}
 use Rattle.tables.specs.Cells.{valuesIn, stampIn, changesIn, recordRows, recordEnd, endAt, changeRow, changeSet}
 use Rattle.tables.specs.Clock.{clockIn}

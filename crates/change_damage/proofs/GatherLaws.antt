@@ -9,10 +9,13 @@ use native.Mathlib.Omega.{arith}
 use lib.Bits.{bitOr, or-add-and, and-le-r, and-le-l, or-lt}
 use lib.Dec.{eqb, ltb}
 use lib.ListN.{getD}
-use Rattle.bits.specs.All.{allBelow, all-at, all-of, all-ext}
-use Rattle.bits.specs.OrWords.{orBelow, or-zero, or-more, or-clear}
-use Rattle.bits.specs.Cases.{same-truth, lt-cases}
-use Rattle.bits.specs.Sets.{setBelow, below-shr, below-lt, lt-below}
+use Rattle.bits.specs.All.{allBelow}
+use Rattle.bits.proofs.AllLaws.{all-at, all-of, all-ext}
+use Rattle.bits.specs.OrWords.{orBelow}
+use Rattle.bits.proofs.OrLaws.{or-zero, or-more, or-clear}
+use Rattle.bits.proofs.Cases.{same-truth, lt-cases}
+use Rattle.bits.specs.Sets.{setBelow}
+use Rattle.bits.proofs.SetLaws.{below-shr, below-lt, lt-below}
 use Rattle.tables.specs.Damage.{allIn}
 use Rattle.change_damage.specs.Parts.{Gathered, rowBelow}
 

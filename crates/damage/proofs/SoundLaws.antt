@@ -6,7 +6,7 @@ use mathlib.Core.List.{List}
 use Prim.Native.Nat.{ℕ, _≤_}
 use native.Mathlib.Omega.{arith}
 use lib.ListN.{length}
-use Rattle.bits.specs.All.{all-ext}
+use Rattle.bits.proofs.AllLaws.{all-ext}
 use Rattle.rules.specs.Limits.{maxSessions}
 use Rattle.tables.specs.declared.clock.Clock.{Clock}
 use Rattle.tables.specs.declared.session.Session.{Session}

@@ -6,9 +6,12 @@ use mathlib.Core.List.{List}
 use Prim.Native.Nat.{ℕ, _+_, _-_, _*_, _≤_, _<_}
 use native.Mathlib.Omega.{arith}
 use lib.ListN.{length, take, drop}
-use Rattle.bits.specs.All.{allBelow, all-at}
-use Rattle.bits.specs.Part.{part, part-lent}
-use Rattle.bits.specs.Tail.{tailClear, tail-bits, tail-of-bits}
+use Rattle.bits.specs.All.{allBelow}
+use Rattle.bits.proofs.AllLaws.{all-at}
+use Rattle.bits.specs.Part.{part}
+use Rattle.bits.proofs.PartLaws.{part-lent}
+use Rattle.bits.specs.Tail.{tailClear}
+use Rattle.bits.proofs.TailLaws.{tail-bits, tail-of-bits}
 use Rattle.bits.specs.Vectors.{vectorAt, tailsClear}
 use Rattle.tables.specs.declared.clock.Clock.{Clock}
 use Rattle.tables.specs.Cells.{firstIn, slotsIn, slotStamp, slotWords, rowsAt}

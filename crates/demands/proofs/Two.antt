@@ -10,7 +10,7 @@ use borrow.Author.Tests.{lt-leb, le-ltb}
 use lib.Dec.{leb}
 use lib.ListN.{length, replicate, getD-replicate, length-map}
 use lib.Seq.{getD-set-same, take-nil}
-use Rattle.bits.specs.Rows.{length-rows, count-none}
+use Rattle.bits.proofs.RowLaws.{length-rows, count-none}
 use Rattle.bits.specs.Column.{valueOf}
 use Rattle.rules.specs.Limits.{maxSessions, vectorWords}
 use Rattle.rules.specs.State.{State, free, opened, session}

@@ -14,7 +14,7 @@ use lib.Dec.{eqb, ltb}
 use lib.ListN.{length, set}
 use lib.Seq.{set-out, set-getD, getD-set-same}
 use borrow.Author.Tests.{lt-ltb, leb-false}
-use Rattle.bits.specs.Cases.{lt-cases}
+use Rattle.bits.proofs.Cases.{lt-cases}
 use Rattle.bits.specs.Vec.{vec}
 use Rattle.rules.specs.State.{chain, session, startOf}
 use Rattle.rules.specs.Versions.{queried}

@@ -7,7 +7,7 @@ use Prim.Native.Nat.{ℕ, _<_}
 use native.Mathlib.Omega.{arith}
 use borrow.Author.Tests.{eq-eqb, ne-eqb}
 use lib.ListN.{length-replicate}
-use Rattle.bits.specs.Cases.{eq-cases}
+use Rattle.bits.proofs.Cases.{eq-cases}
 use Rattle.rules.specs.State.{opened}
 use Rattle.rules.specs.Log.{stampOf}
 use Rattle.rules.specs.Calls.{begin, ok, abort}

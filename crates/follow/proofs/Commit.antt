@@ -10,10 +10,13 @@ use native.Mathlib.Omega.{arith}
 use borrow.Author.Tests.{leb-false, ltb-false}
 use lib.ListN.{length, length-set, set, length-map}
 use lib.Seq.{length-sets, sets}
-use Rattle.bits.specs.Cases.{lt-cases}
-use Rattle.bits.specs.Vec.{vec, length-vec, bitAt-vec}
-use Rattle.bits.specs.Words.{bitAt, bitAt-above}
-use Rattle.bits.specs.Tail.{tailClear, tail-of-bits}
+use Rattle.bits.proofs.Cases.{lt-cases}
+use Rattle.bits.specs.Vec.{vec}
+use Rattle.bits.proofs.VecLaws.{length-vec, bitAt-vec}
+use Rattle.bits.specs.Words.{bitAt}
+use Rattle.bits.proofs.WordLaws.{bitAt-above}
+use Rattle.bits.specs.Tail.{tailClear}
+use Rattle.bits.proofs.TailLaws.{tail-of-bits}
 use Rattle.rules.specs.Limits.{maxRows, maxRecords, maxChanges, maxSlots}
 use Rattle.rules.specs.State.{State, Change, Log, Chain, Version, chain}
 use Rattle.rules.specs.Commit.{newSet, commitChanges}

@@ -13,13 +13,18 @@ use lib.ListN.{length, replicate, List·getD-eq-default, getD, take, drop, lengt
 use lib.ListN.{List·getD-map}
 use lib.Dec.{eqb, ltb}
 use lib.Seq.{take-append-le, drop-append-le}
-use Rattle.bits.specs.Tab.{tab, tab-ext, over, length-over, length-tab, getD-tab}
-use Rattle.bits.specs.Tail.{tailClear, tail-of-bits}
-use Rattle.bits.specs.Words.{bitAt, bitAt-above}
-use Rattle.bits.specs.Cases.{eq-cases, lt-cases}
+use Rattle.bits.specs.Tab.{tab, over}
+use Rattle.bits.proofs.TabLaws.{tab-ext, length-over, length-tab, getD-tab}
+use Rattle.bits.specs.Tail.{tailClear}
+use Rattle.bits.proofs.TailLaws.{tail-of-bits}
+use Rattle.bits.specs.Words.{bitAt}
+use Rattle.bits.proofs.WordLaws.{bitAt-above}
+use Rattle.bits.proofs.Cases.{eq-cases, lt-cases}
 use Rattle.bits.specs.Part.{part}
-use Rattle.bits.specs.Vec.{vec, length-vec, bitAt-vec}
-use Rattle.bits.specs.Vectors.{vectorAt, vectorAt-vec}
+use Rattle.bits.specs.Vec.{vec}
+use Rattle.bits.proofs.VecLaws.{length-vec, bitAt-vec}
+use Rattle.bits.specs.Vectors.{vectorAt}
+use Rattle.bits.proofs.VectorLaws.{vectorAt-vec}
 use Rattle.bits.specs.Column.{holdsAt, columnBit, valueOf, value-none, value-some}
 use Rattle.rules.specs.Limits.{maxValues, maxRows, maxSlots, maxSessions}
 use Rattle.rules.specs.State.{Version, free}

@@ -11,7 +11,7 @@ use borrow.Author.Tests.{leb-false}
 use lib.ListN.{length, set, length-set, length-replicate}
 use lib.Seq.{getD-set-same, getD-set-other, set-out}
 use lib.Dec.{leb}
-use Rattle.bits.specs.Cases.{eq-cases, lt-cases}
+use Rattle.bits.proofs.Cases.{eq-cases, lt-cases}
 use Rattle.rules.specs.Limits.{maxSessions}
 use Rattle.rules.specs.State.{opened, session, isFree, State}
 use Rattle.rules.specs.Step.{seated, effect, step}

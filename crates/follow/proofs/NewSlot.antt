@@ -10,9 +10,10 @@ use native.Mathlib.Omega.{arith}
 use native.Mathlib.Numerals.{add-one}
 use lib.ListN.{length, take, drop, set}
 use lib.Seq.{sets, sets-eq}
-use Rattle.bits.specs.Cases.{lt-cases, eq-cases}
+use Rattle.bits.proofs.Cases.{lt-cases, eq-cases}
 use Rattle.bits.specs.Tail.{tailClear}
-use Rattle.bits.specs.Part.{part, putPart, part-same, part-other}
+use Rattle.bits.specs.Part.{part, putPart}
+use Rattle.bits.proofs.PartLaws.{part-same, part-other}
 use Rattle.bits.specs.Tab.{tab}
 use Rattle.bits.specs.Words.{bitAt}
 use Rattle.rules.specs.State.{Change, Version, Chain}

@@ -12,11 +12,14 @@ use lib.Dec.{ltb}
 use lib.ListN.{length, take, drop}
 use lib.Seq.{take-at}
 use Rattle.bits.specs.Bit.{xorb}
-use Rattle.bits.specs.Cases.{eq-cases}
-use Rattle.bits.specs.Rows.{rowsBelow, rowsOf, rows-ext, count-none}
-use Rattle.bits.specs.Tab.{over, length-over}
-use Rattle.bits.specs.Vec.{vec, length-vec}
-use Rattle.bits.specs.VecOps.{rowsOf-vec}
+use Rattle.bits.proofs.Cases.{eq-cases}
+use Rattle.bits.specs.Rows.{rowsBelow, rowsOf}
+use Rattle.bits.proofs.RowLaws.{rows-ext, count-none}
+use Rattle.bits.specs.Tab.{over}
+use Rattle.bits.proofs.TabLaws.{length-over}
+use Rattle.bits.specs.Vec.{vec}
+use Rattle.bits.proofs.VecLaws.{length-vec}
+use Rattle.bits.proofs.VecOps.{rowsOf-vec}
 use Rattle.bits.specs.Words.{bitAt}
 use Rattle.rules.specs.Limits.{maxRows, vectorWords}
 use Rattle.rules.specs.State.{session, startOf, chain}

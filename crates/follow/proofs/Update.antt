@@ -11,9 +11,11 @@ use borrow.Author.Tests.{eqb-true, eqb-false, ne-eqb, leb-false, lt-ltb, le-ltb}
 use lib.Dec.{eqb, leb}
 use lib.ListN.{length, getD, set, length-set}
 use lib.Seq.{getD-set-same, getD-set-other}
-use Rattle.bits.specs.Cases.{eq-cases, lt-cases}
-use Rattle.bits.specs.Tab.{tab, getD-tab, tab-ext, tab-more}
-use Rattle.bits.specs.Rows.{smallestBelow, smallest-some, smallest-none}
+use Rattle.bits.proofs.Cases.{eq-cases, lt-cases}
+use Rattle.bits.specs.Tab.{tab}
+use Rattle.bits.proofs.TabLaws.{getD-tab, tab-ext, tab-more}
+use Rattle.bits.specs.Rows.{smallestBelow}
+use Rattle.bits.proofs.RowLaws.{smallest-some, smallest-none}
 use Rattle.rules.specs.Limits.{maxEntries}
 use Rattle.rules.specs.State.{Entry, alter, add, opened, session, rowsOf, listOf}
 use Rattle.rules.specs.Lists.{lists, put}

@@ -5,7 +5,7 @@ use mathlib.Core.List.{List}
 use Prim.Native.Nat.{ℕ, _≤_, _<_}
 use native.Mathlib.Omega.{arith}
 use Rattle.bits.specs.Bit.{xorb, bit}
-use Rattle.bits.specs.Rows.{smallest-ext}
+use Rattle.bits.proofs.RowLaws.{smallest-ext}
 use Rattle.bits.specs.Words.{bitAt}
 use Rattle.rules.specs.State.{Change}
 use Rattle.rules.specs.Log.{lastNaming, orEmpty}

@@ -11,11 +11,13 @@ use native.Mathlib.Numerals.{add-one}
 use borrow.Author.Tests.{eq-eqb, ne-eqb, lt-ltb, le-ltb, ltb-true}
 use lib.Dec.{eqb, ltb}
 use lib.ListN.{replicate}
-use Rattle.bits.specs.Cases.{lt-cases}
+use Rattle.bits.proofs.Cases.{lt-cases}
 use Rattle.bits.specs.Choice.{orElse}
-use Rattle.bits.specs.Bit.{bit, bit-of-zero}
-use Rattle.bits.specs.Vec.{vec, vec-ext}
-use Rattle.bits.specs.VecOps.{put-vec, zeros-vec}
+use Rattle.bits.specs.Bit.{bit}
+use Rattle.bits.proofs.BitLaws.{bit-of-zero}
+use Rattle.bits.specs.Vec.{vec}
+use Rattle.bits.proofs.VecLaws.{vec-ext}
+use Rattle.bits.proofs.VecOps.{put-vec, zeros-vec}
 use Rattle.bits.specs.Words.{putAt}
 use Rattle.rules.specs.State.{Change}
 use Rattle.rules.specs.Log.{naming, lastNaming, orEmpty, names}

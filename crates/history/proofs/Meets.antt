@@ -7,9 +7,11 @@ use Prim.Native.Nat.{ℕ, _≤_, _<_}
 use native.Mathlib.Omega.{arith}
 use lib.Dec.{eqb}
 use Rattle.bits.specs.Bit.{xorb, bit}
-use Rattle.bits.specs.Rows.{rowsOf, rows-ext, count-ext, smallest-ext}
-use Rattle.bits.specs.Vec.{vec, vec-ext}
-use Rattle.bits.specs.VecOps.{rowsOf-vec}
+use Rattle.bits.specs.Rows.{rowsOf}
+use Rattle.bits.proofs.RowLaws.{rows-ext, count-ext, smallest-ext}
+use Rattle.bits.specs.Vec.{vec}
+use Rattle.bits.proofs.VecLaws.{vec-ext}
+use Rattle.bits.proofs.VecOps.{rowsOf-vec}
 use Rattle.bits.specs.Words.{bitAt}
 use Rattle.rules.specs.Limits.{maxRows}
 use Rattle.rules.specs.State.{Change, Version, Chain, chain}

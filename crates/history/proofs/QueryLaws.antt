@@ -9,11 +9,14 @@ use borrow.Author.Tests.{ne-eqb}
 use lib.ListN.{length, take, drop}
 use lib.Seq.{length-take-le}
 use Rattle.bits.specs.Bit.{xorb}
-use Rattle.bits.specs.Part.{part, part-lent}
-use Rattle.bits.specs.Rows.{countBelow, countOf, count-le}
+use Rattle.bits.specs.Part.{part}
+use Rattle.bits.proofs.PartLaws.{part-lent}
+use Rattle.bits.specs.Rows.{countBelow, countOf}
+use Rattle.bits.proofs.RowLaws.{count-le}
 use Rattle.bits.specs.Tab.{over}
-use Rattle.bits.specs.Vec.{vec, length-vec, bitAt-vec, vec-ext, vec-bits}
-use Rattle.bits.specs.VecOps.{countOf-vec, xor-vec}
+use Rattle.bits.specs.Vec.{vec}
+use Rattle.bits.proofs.VecLaws.{length-vec, bitAt-vec, vec-ext, vec-bits}
+use Rattle.bits.proofs.VecOps.{countOf-vec, xor-vec}
 use Rattle.bits.specs.Words.{bitAt, Words, xorWords}
 use Rattle.tables.specs.Cells.{slotWords, endAt}
 use Rattle.tables.proofs.Slots.{length-slotWords, words-slotWords}

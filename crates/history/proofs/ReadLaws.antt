@@ -7,8 +7,9 @@ use mathlib.Core.List.{List}
 use Prim.Native.Nat.{ℕ, _+_, _≤_, _<_}
 use native.Mathlib.Omega.{arith}
 use lib.Dec.{ltb}
-use Rattle.bits.specs.Bit.{xorb, bit, bit-of-zero}
-use Rattle.bits.specs.Rows.{smallest-zero, smallest-past, smallest-here, smallest-ext}
+use Rattle.bits.specs.Bit.{xorb, bit}
+use Rattle.bits.proofs.BitLaws.{bit-of-zero}
+use Rattle.bits.proofs.RowLaws.{smallest-zero, smallest-past, smallest-here, smallest-ext}
 use Rattle.bits.specs.Words.{bitAt}
 use Rattle.rules.specs.Log.{orEmpty}
 use Rattle.tables.specs.Cells.{slotWords, endAt}

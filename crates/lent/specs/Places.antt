@@ -12,7 +12,7 @@ use lib.Dec.{T, ltb, nltb→le}
 use lib.ListN.{length, set, replicate, List·getD-eq-default}
 use lib.Seq.{sets, length-sets, set-out, set-getD, getD-set-same, getD-set-other}
 use mir.Facts.{and-yes, and-no}
-use Rattle.bits.specs.Cases.{eq-cases, lt-cases}
+use Rattle.bits.proofs.Cases.{eq-cases, lt-cases}
 use Rattle.tables.specs.declared.session.Session.{Session}
 use Rattle.tables.specs.declared.counts.Stamp.{Stamp}
 use Rattle.tables.specs.declared.counts.Row.{Row}

@@ -11,7 +11,7 @@ use borrow.Author.Tests.{eq-eqb, ne-eqb, lt-ltb, le-ltb}
 use lib.Dec.{eqb, ltb}
 use lib.ListN.{length, take, getD, set, replicate, length-replicate, drop-of-length-le}
 use lib.Seq.{length-take-le, set-getD, sets-eq}
-use Rattle.bits.specs.Cases.{eq-cases}
+use Rattle.bits.proofs.Cases.{eq-cases}
 use Rattle.bits.specs.Column.{valueOf}
 use Rattle.bits.specs.Tab.{over}
 use Rattle.bits.specs.Vec.{vec}

@@ -10,7 +10,7 @@ use borrow.Author.Tests.{le-leb, lt-leb}
 use lib.Bits.{bitOr, or-add-and, and-le-r, and-le-l}
 use lib.Dec.{leb, eqb, ltb}
 use lib.ListN.{getD}
-use Rattle.bits.specs.Cases.{lt-cases}
+use Rattle.bits.proofs.Cases.{lt-cases}
 use Rattle.tables.specs.Damage.{allIn, recordFits}
 use Rattle.tables.proofs.Tests.{told, made}
 use Rattle.tables.proofs.Facts.{kind-made, in-of}

@@ -11,10 +11,12 @@ use borrow.Author.Tests.{eq-eqb, ne-eqb, leb-false, ltb-false, eqb-false}
 use lib.ListN.{length, drop, take, List·getD-eq-default}
 use lib.Seq.{drop-append-le, take-append-le, take-length, take-nil, drop-nil}
 use lib.Dec.{eqb, ltb}
-use Rattle.bits.specs.Bit.{xorb, xorb-twice, bit, bit-of-zero}
-use Rattle.bits.specs.Rows.{rowsBelow, length-rows, rows-ext, count-ext, where-cut, smallestBelow, smallest-none, smallest-some}
-use Rattle.bits.specs.Rows.{smallest-ext}
-use Rattle.bits.specs.Tab.{tab, length-tab, getD-tab}
+use Rattle.bits.specs.Bit.{xorb, bit}
+use Rattle.bits.proofs.BitLaws.{xorb-twice, bit-of-zero}
+use Rattle.bits.specs.Rows.{rowsBelow, smallestBelow}
+use Rattle.bits.proofs.RowLaws.{length-rows, rows-ext, count-ext, where-cut, smallest-none, smallest-some, smallest-ext}
+use Rattle.bits.specs.Tab.{tab}
+use Rattle.bits.proofs.TabLaws.{length-tab, getD-tab}
 use Rattle.rules.specs.Limits.{maxRows, maxValues}
 use Rattle.rules.specs.State.{Record, Log, Version, Chain, chain}
 use Rattle.rules.specs.Log.{stampOf, above, grown, changesOf, lastNaming, names, flipSet}

@@ -11,10 +11,12 @@ use borrow.Author.Tests.{eqb-true, eq-eqb, ne-eqb, ltb-false}
 use lib.Dec.{eqb, ltb}
 use lib.ListN.{length, getD, length-map, List·getD-eq-default, set, length-set}
 use lib.Seq.{getD-append-add, getD-set-same, getD-set-other}
-use Rattle.bits.specs.Cases.{eq-cases, lt-cases, bool-cases, same-truth}
-use Rattle.bits.specs.Bit.{xorb, xorb-comm, xorb-swap, bit, flipBit, bit-flip, clearBit, bit-clear}
+use Rattle.bits.proofs.Cases.{eq-cases, lt-cases, bool-cases, same-truth}
+use Rattle.bits.specs.Bit.{xorb, bit, flipBit, clearBit}
+use Rattle.bits.proofs.BitLaws.{xorb-comm, xorb-swap, bit-flip, bit-clear}
 use Rattle.bits.specs.Choice.{orElse, orElse-none}
-use Rattle.bits.specs.Rows.{rowsBelow, rows-mem, mem-rows}
+use Rattle.bits.specs.Rows.{rowsBelow}
+use Rattle.bits.proofs.RowLaws.{rows-mem, mem-rows}
 use Rattle.rules.specs.Limits.{maxRows}
 use Rattle.rules.specs.State.{Record, commits, Log, Chain, chain, Entry, alter, add, Change, tidies, Version}
 use Rattle.rules.specs.Log.{stampOf, above, grown, changesOf, lastNaming, names, flipSet, someChange}

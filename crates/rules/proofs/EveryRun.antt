@@ -11,8 +11,8 @@ use borrow.Author.Tests.{eqb-true, eq-eqb, lt-leb, leb-false}
 use lib.Dec.{leb, ltb}
 use lib.ListN.{length, drop, List·getD-eq-default}
 use lib.Seq.{getD-set-same}
-use Rattle.bits.specs.Cases.{lt-cases}
-use Rattle.bits.specs.Rows.{rows-mem, mem-rows, rows-ascend}
+use Rattle.bits.proofs.Cases.{lt-cases}
+use Rattle.bits.proofs.RowLaws.{rows-mem, mem-rows, rows-ascend}
 use Rattle.rules.specs.Limits.{maxRows, maxSessions, maxRecords, maxChanges}
 use Rattle.rules.specs.State.{Entry, Session, free, opened, State, chain, session, isFree, startOf, rowsOf, listOf, Change}
 use Rattle.rules.specs.Log.{stampOf, above, changesOf, names, allChanges}

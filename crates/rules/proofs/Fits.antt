@@ -10,9 +10,10 @@ use borrow.Author.Tests.{ne-eqb}
 use lib.Dec.{eqb, leb}
 use lib.Pow.{pow-pos}
 use lib.ListN.{length, take, drop, length-append}
-use Rattle.bits.specs.Bit.{flip-lt, bit-of-zero}
+use Rattle.bits.proofs.BitLaws.{flip-lt, bit-of-zero}
 use Rattle.bits.specs.Choice.{orElse}
-use Rattle.bits.specs.Rows.{smallestBelow, smallest-some}
+use Rattle.bits.specs.Rows.{smallestBelow}
+use Rattle.bits.proofs.RowLaws.{smallest-some}
 use Rattle.rules.specs.State.{Change, Record, Log, Version, Chain, Entry, alter, add, Session, free, opened}
 use Rattle.rules.specs.Log.{stampOf, upTo, between, grown, changesOf, allChanges, naming, lastNaming, orEmpty, flipSet, rowsAt}
 use Rattle.rules.specs.Versions.{versionAt, flipped, queried}

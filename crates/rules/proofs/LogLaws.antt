@@ -12,7 +12,8 @@ use borrow.Author.Tests.{leb-true, leb-false, le-leb, lt-leb}
 use lib.ListN.{take, drop, take-append-drop}
 use lib.Seq.{take-append-le, drop-append-le, take-take, take-length, take-nil, drop-nil}
 use lib.Dec.{leb}
-use Rattle.bits.specs.Bit.{bit, bit-of-zero}
+use Rattle.bits.specs.Bit.{bit}
+use Rattle.bits.proofs.BitLaws.{bit-of-zero}
 use Rattle.bits.specs.Choice.{orElse}
 use Rattle.rules.specs.State.{Record, Log, Chain, Version}
 use Rattle.rules.specs.Log.{stampOf, upTo, above, between, grown, changesOf, allChanges, lastNaming, orEmpty, flipSet, rowsAt}

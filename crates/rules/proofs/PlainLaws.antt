@@ -13,7 +13,7 @@ use borrow.Author.Tests.{eqb-false, eq-eqb, ne-eqb}
 use lib.Dec.{eqb}
 use lib.ListN.{length, take, drop, set, length-append, length-set, take-append-drop, List·getD-append}
 use lib.Seq.{take-append-le, take-length, take-take, getD-set-other, getD-set-same}
-use Rattle.bits.specs.Cases.{bool-cases, eq-cases}
+use Rattle.bits.proofs.Cases.{bool-cases, eq-cases}
 use Rattle.bits.specs.Choice.{orElse}
 use Rattle.rules.specs.Calls.{Column, cell}
 use Rattle.rules.specs.Plain.{Wish, hold, grow, rewritten, newRows, met, isWished, Event, committed, tidied, replay, isTidyOf}

@@ -10,7 +10,7 @@ use native.Mathlib.Omega.{arith}
 use native.Mathlib.Numerals.{add-one}
 use lib.ListN.{length, take, drop, getD, set, replicate, length-append}
 use lib.Seq.{take-length, drop-length}
-use Rattle.bits.specs.Cases.{eq-cases}
+use Rattle.bits.proofs.Cases.{eq-cases}
 use Rattle.bits.specs.Bit.{xorb}
 use Rattle.bits.specs.Choice.{orElse}
 

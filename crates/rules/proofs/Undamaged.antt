@@ -10,10 +10,11 @@ use native.Mathlib.Omega.{arith}
 use borrow.Author.Tests.{leb-false, ltb-false}
 use lib.ListN.{length, set, length-append, length-map, length-set, length-replicate, List·getD-eq-default}
 use lib.Seq.{getD-set-same, getD-set-other}
-use Rattle.bits.specs.Bit.{bit-of-zero, clear-lt}
-use Rattle.bits.specs.Cases.{eq-cases, lt-cases}
-use Rattle.bits.specs.Tab.{length-tab, getD-tab}
-use Rattle.bits.specs.Rows.{rowsBelow, rows-mem}
+use Rattle.bits.proofs.BitLaws.{bit-of-zero, clear-lt}
+use Rattle.bits.proofs.Cases.{eq-cases, lt-cases}
+use Rattle.bits.proofs.TabLaws.{length-tab, getD-tab}
+use Rattle.bits.specs.Rows.{rowsBelow}
+use Rattle.bits.proofs.RowLaws.{rows-mem}
 use Rattle.rules.specs.Limits.{maxValues, maxRows, maxSlots, maxRecords, maxChanges, maxSessions}
 use Rattle.rules.specs.State.{Record, Chain, Entry, Session, free, opened, State, chain, session, isFree, startOf, rowsOf, listOf}
 use Rattle.rules.specs.Log.{stampOf, grown, allChanges, flipSet}

@@ -9,9 +9,11 @@ use native.Mathlib.Omega.{arith}
 use borrow.Author.Tests.{not-false}
 use lib.Dec.{eqb}
 use lib.ListN.{getD}
-use Rattle.bits.specs.All.{allBelow, all-at, all-and}
-use Rattle.bits.specs.OrWords.{orBelow, or-all}
-use Rattle.bits.specs.Cases.{same-truth}
+use Rattle.bits.specs.All.{allBelow}
+use Rattle.bits.proofs.AllLaws.{all-at, all-and}
+use Rattle.bits.specs.OrWords.{orBelow}
+use Rattle.bits.proofs.OrLaws.{or-all}
+use Rattle.bits.proofs.Cases.{same-truth}
 use Rattle.rules.specs.Limits.{maxEntries}
 use Rattle.tables.specs.declared.session.Session.{Session}
 use Rattle.tables.specs.Damage.{entryZero, allZero}

@@ -10,7 +10,7 @@ use borrow.Author.Tests.{not-false}
 use lib.Dec.{eqb}
 use lib.ListN.{length}
 use Rattle.bits.specs.All.{allBelow}
-use Rattle.bits.specs.Cases.{same-truth}
+use Rattle.bits.proofs.Cases.{same-truth}
 use Rattle.rules.specs.Limits.{maxValues, maxRows, maxRecords, maxEntries}
 use Rattle.tables.specs.declared.clock.Clock.{Clock}
 use Rattle.tables.specs.declared.session.Session.{Session}

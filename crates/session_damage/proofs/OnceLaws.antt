@@ -8,9 +8,12 @@ use native.Mathlib.Omega.{arith}
 use borrow.Author.Tests.{eq-eqb, ne-eqb}
 use lib.Dec.{eqb}
 use lib.ListN.{length, getD, replicate, length-replicate, getD-replicate}
-use Rattle.bits.specs.All.{allBelow, all-of, all-none, all-more}
-use Rattle.bits.specs.Bit.{bit, bit-of-zero}
-use Rattle.bits.specs.Words.{bitAt, putAt, length-put, bitAt-put}
+use Rattle.bits.specs.All.{allBelow}
+use Rattle.bits.proofs.AllLaws.{all-of, all-none, all-more}
+use Rattle.bits.specs.Bit.{bit}
+use Rattle.bits.proofs.BitLaws.{bit-of-zero}
+use Rattle.bits.specs.Words.{bitAt, putAt}
+use Rattle.bits.proofs.WordLaws.{length-put, bitAt-put}
 use Rattle.tables.specs.Damage.{allIn}
 use Rattle.session_damage.specs.Parts.{onceIn, RowsLow}
 use Rattle.tables.proofs.Fold.{scan-again, scan-fails}

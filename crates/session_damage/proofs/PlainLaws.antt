@@ -9,9 +9,11 @@ use native.Mathlib.Omega.{arith}
 use borrow.Author.Tests.{eq-eqb, ne-eqb, not-true}
 use lib.Dec.{eqb, ltb}
 use lib.ListN.{getD}
-use Rattle.bits.specs.All.{allBelow, all-of, all-none, all-more}
-use Rattle.bits.specs.Bit.{bit, setBit, bit-set}
-use Rattle.bits.specs.Cases.{lt-cases}
+use Rattle.bits.specs.All.{allBelow}
+use Rattle.bits.proofs.AllLaws.{all-of, all-none, all-more}
+use Rattle.bits.specs.Bit.{bit, setBit}
+use Rattle.bits.proofs.BitLaws.{bit-set}
+use Rattle.bits.proofs.Cases.{lt-cases}
 use Rattle.tables.specs.Damage.{entryFits}
 use Rattle.tables.proofs.Tests.{both, and-both, or-left, or-right}
 use Rattle.session_damage.specs.Parts.{listed, onceIn, entriesFit}

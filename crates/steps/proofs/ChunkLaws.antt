@@ -10,7 +10,7 @@ use borrow.Author.Tests.{lt-ltb, ltb-true, leb-true, leb-false}
 use lib.Dec.{leb, ltb}
 use lib.ListN.{length, take, drop, length-append, length-take, length-drop}
 use lib.Seq.{sets, sets-eq, length-sets, take-all, take-append-seam}
-use Rattle.bits.specs.Cases.{eq-cases}
+use Rattle.bits.proofs.Cases.{eq-cases}
 use Rattle.text.specs.declared.feed.Fed.{Fed}
 use Rattle.text.specs.Feed.{cut, pend, wholeLine, Feeds}
 use Rattle.steps.specs.Desk.{Desk, desk, afterLines, answersOf}

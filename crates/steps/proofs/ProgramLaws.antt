@@ -10,7 +10,7 @@ use borrow.Author.Tests.{ltb-true, ltb-false, lt-ltb}
 use lib.Dec.{ltb}
 use lib.ListN.{length, take, drop, replicate, length-take, drop-of-length-le}
 use lib.Seq.{take-all, take-take}
-use Rattle.bits.specs.Cases.{bool-cases}
+use Rattle.bits.proofs.Cases.{bool-cases}
 use Rattle.tables.specs.declared.session.Session.{Session}
 use Rattle.tables.specs.Cells.{Tables, tables}
 use Rattle.tables.specs.Sessions.{freed}

@@ -9,7 +9,7 @@ use native.Mathlib.Nat.{pos-of-ne-zero}
 use native.Mathlib.Numerals.{add-one}
 use native.Mathlib.Omega.{arith}
 use borrow.Author.Tests.{eq-eqb, ne-eqb}
-use Rattle.bits.specs.Cases.{eq-cases}
+use Rattle.bits.proofs.Cases.{eq-cases}
 use Rattle.bits.specs.Words.{bitAt}
 use Rattle.rules.specs.State.{Version, Chain}
 use Rattle.rules.specs.Versions.{newest}

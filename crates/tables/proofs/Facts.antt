@@ -11,8 +11,9 @@ use native.Mathlib.Omega.{arith}
 use borrow.Author.Tests.{eqb-true, eq-eqb}
 use lib.Dec.{eqb}
 use lib.ListN.{length}
-use Rattle.bits.specs.Cases.{lt-cases}
-use Rattle.bits.specs.All.{allBelow, all-at, all-of}
+use Rattle.bits.proofs.Cases.{lt-cases}
+use Rattle.bits.specs.All.{allBelow}
+use Rattle.bits.proofs.AllLaws.{all-at, all-of}
 use Rattle.rules.specs.Limits.{maxValues, maxRows, maxSlots, maxRecords, maxChanges}
 use Rattle.tables.specs.Cells.{Tables, valuesIn, firstIn, stampIn, rowsIn, slotsIn, changesIn, recordStamp, recordKind, recordRows, recordEnd, rowsAt, endAt, changeRow, changeSet}
 use Rattle.tables.specs.Room.{roomFor, roomy, Roomy}

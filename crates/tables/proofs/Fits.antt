@@ -10,7 +10,7 @@ use native.Mathlib.Nat.{pos-of-ne-zero}
 use native.Mathlib.Omega.{arith}
 use borrow.Author.Tests.{eq-eqb, ne-eqb}
 use lib.ListN.{getD}
-use Rattle.bits.specs.Cases.{eq-cases}
+use Rattle.bits.proofs.Cases.{eq-cases}
 use Rattle.rules.specs.State.{Change, Log, Version, Chain, Entry, alter, add}
 use Rattle.rules.specs.Log as log
 use Rattle.rules.specs.Lists.{lists}

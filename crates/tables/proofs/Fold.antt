@@ -8,8 +8,9 @@ use native.Mathlib.Omega.{arith}
 use native.Mathlib.Nat.{zero-add}
 use borrow.Author.Tests.{not-true, not-false, ne-eqb}
 use lib.Dec.{eqb}
-use Rattle.bits.specs.All.{allBelow, all-none, all-ext}
-use Rattle.bits.specs.Cases.{lt-cases, same-truth}
+use Rattle.bits.specs.All.{allBelow}
+use Rattle.bits.proofs.AllLaws.{all-none, all-ext}
+use Rattle.bits.proofs.Cases.{lt-cases, same-truth}
 use Rattle.tables.specs.Damage.{allIn}
 use Rattle.tables.proofs.Tests.{both, and-both}
 use Rattle.tables.proofs.Facts.{in-at, in-of}

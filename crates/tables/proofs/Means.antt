@@ -10,7 +10,8 @@ use native.Mathlib.Omega.{arith}
 use borrow.Author.Tests.{eq-eqb, ne-eqb, eqb-true}
 use lib.Dec.{eqb}
 use lib.ListN.{length, getD, List·getD-eq-default}
-use Rattle.bits.specs.Tab.{tab, length-tab, getD-tab}
+use Rattle.bits.specs.Tab.{tab}
+use Rattle.bits.proofs.TabLaws.{length-tab, getD-tab}
 use Rattle.rules.specs.State.{Change, Record, Log, free, opened, chain, session, isFree, startOf, rowsOf, listOf}
 use Rattle.rules.specs.Log.{stampOf, upTo, above, between, changesOf, allChanges}
 use Rattle.rules.specs.Log as log

@@ -9,9 +9,10 @@ use native.Mathlib.Omega.{arith}
 use borrow.Author.Tests.{eqb-true, eqb-false, eq-eqb, ne-eqb, ltb-true, lt-ltb, not-true}
 use lib.Dec.{eqb, ltb}
 use lib.ListN.{length, getD, getD-replicate}
-use Rattle.bits.specs.Cases.{eq-cases}
+use Rattle.bits.proofs.Cases.{eq-cases}
 use Rattle.bits.specs.Words.{Words}
-use Rattle.bits.specs.All.{allBelow, all-at, all-of}
+use Rattle.bits.specs.All.{allBelow}
+use Rattle.bits.proofs.AllLaws.{all-at, all-of}
 use Rattle.rules.specs.Limits.{maxSessions, maxEntries}
 use Rattle.tables.specs.declared.session.Session.{Session}
 use Rattle.tables.specs.Cells.{Tables, valuesIn, firstIn, stampIn, rowsIn, rowsAt}

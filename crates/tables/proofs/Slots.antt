@@ -11,10 +11,11 @@ use borrow.Author.Tests.{eqb-false, ne-eqb, lt-ltb, le-ltb, not-true}
 use lib.Dec.{eqb, lit<}
 use lib.ListN.{length, take, drop, length-take, length-drop, List·getD-eq-default}
 use lib.Seq.{getD-take, getD-drop}
-use Rattle.bits.specs.Cases.{lt-cases}
+use Rattle.bits.proofs.Cases.{lt-cases}
 use Rattle.bits.specs.Words.{bitAt, Words}
-use Rattle.bits.specs.All.{all-at, all-of}
-use Rattle.bits.specs.Tail.{tailClear, tail-bits}
+use Rattle.bits.proofs.AllLaws.{all-at, all-of}
+use Rattle.bits.specs.Tail.{tailClear}
+use Rattle.bits.proofs.TailLaws.{tail-bits}
 use Rattle.tables.specs.Cells.{valuesIn, firstIn, stampIn, slotsIn, slotValue, slotStamp, slotLink, slotWords, headOf, rowsAt}
 use Rattle.tables.specs.Damage.{firstSlotFits, laterSlotFits, slotFits, slotsFit, headFits, headsFit, vectorFits, vectorsFit}
 use Rattle.tables.proofs.Tests.{told, made}

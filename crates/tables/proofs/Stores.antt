@@ -8,7 +8,8 @@ use Prim.Native.Nat.{ℕ, zero, suc, _+_, _≤_, _<_}
 use native.Mathlib.Omega.{arith}
 use lib.ListN.{length, getD, set, length-set}
 use lib.Seq.{getD-set-same, getD-set-other}
-use Rattle.bits.specs.Tab.{tab, tab-ext, tab-more}
+use Rattle.bits.specs.Tab.{tab}
+use Rattle.bits.proofs.TabLaws.{tab-ext, tab-more}
 use Rattle.rules.specs.State.{Change, Record, free, opened}
 use Rattle.rules.specs.Step.{seated}
 use Rattle.tables.specs.declared.session.Session.{Session}

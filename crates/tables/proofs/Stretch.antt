@@ -9,8 +9,9 @@ use native.Mathlib.Numerals.{add-one}
 use native.Mathlib.Omega.{arith}
 use lib.ListN.{length, getD, take, drop, set, length-set}
 use lib.Seq.{take-at, drop-at, ext-getD, getD-set-same, getD-set-other}
-use Rattle.bits.specs.Cases.{eq-cases}
-use Rattle.bits.specs.Tab.{tab, length-tab, getD-tab, tab-ext}
+use Rattle.bits.proofs.Cases.{eq-cases}
+use Rattle.bits.specs.Tab.{tab}
+use Rattle.bits.proofs.TabLaws.{length-tab, getD-tab, tab-ext}
 use Rattle.tables.specs.Stretch.{stretch}
 
 module _ {A : Type 0} where

@@ -5,8 +5,8 @@ use mathlib.Core.Bool.{true, false}
 use mathlib.Core.Logic.{_⊎_, inl, inr, ⊎-elim}
 use Prim.Native.Nat.{ℕ, suc, _+_, _≤_, _<_}
 use native.Mathlib.Omega.{arith}
-use Rattle.bits.specs.Cases.{eq-cases, lt-cases}
-use Rattle.bits.specs.Tab.{length-tab}
+use Rattle.bits.proofs.Cases.{eq-cases, lt-cases}
+use Rattle.bits.proofs.TabLaws.{length-tab}
 use Rattle.rules.specs.Limits.{maxSessions, maxEntries}
 use Rattle.rules.specs.State.{chain, session}
 use Rattle.rules.specs.Log.{stampOf}

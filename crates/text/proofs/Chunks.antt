@@ -12,7 +12,7 @@ use borrow.Author.Tests.{lt-leb}
 use lib.Dec.{eqb}
 use lib.ListN.{length, take, length-take}
 use lib.Seq.{take-all}
-use Rattle.bits.specs.Cases.{lt-cases}
+use Rattle.bits.proofs.Cases.{lt-cases}
 use Rattle.text.specs.Split.{before, split, newline}
 use Rattle.text.specs.Parse.{longestLine, parse}
 use Rattle.text.specs.Lines.{allButLast, lastOf, lastLine, linesOf}

@@ -7,7 +7,7 @@ use mathlib.Core.Option.{Option, none, some}
 use Prim.Native.Nat.{ℕ, _+_, _<_, _≤_}
 use native.Mathlib.Omega.{arith}
 use lib.ListN.{length}
-use Rattle.bits.specs.Cases.{lt-cases}
+use Rattle.bits.proofs.Cases.{lt-cases}
 use Rattle.text.specs.declared.fields.Field.{Field}
 use Rattle.text.specs.Split.{space}
 use Rattle.text.specs.Places.{partAt, endAt, after, nothing, tag, firstBy, fieldBy}

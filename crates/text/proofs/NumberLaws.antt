@@ -10,7 +10,7 @@ use lib.Dec.{eqb, leb, leb·zero, leb·suc-zero, leb·suc-suc}
 use lib.ListN.{length, getD}
 use borrow.Author.Tests.{le-leb, leb-true, eqb-true, eqb-false}
 use mathlib.Core.Logic.{_⊎_, inl, inr}
-use Rattle.bits.specs.Cases.{lt-cases}
+use Rattle.bits.proofs.Cases.{lt-cases}
 use Rattle.text.specs.declared.fields.Field.{Field}
 use Rattle.text.specs.Split.{space}
 use Rattle.text.specs.Number.{isDigit, allDigits, valueFrom, isNumber, number}

@@ -10,7 +10,7 @@ use native.Mathlib.Omega.{arith}
 use borrow.Author.Tests.{eq-eqb, ne-eqb, eqb-true}
 use lib.Dec.{leb, eqb}
 use lib.ListN.{length, getD, set}
-use Rattle.bits.specs.Cases.{eq-cases, lt-cases}
+use Rattle.bits.proofs.Cases.{eq-cases, lt-cases}
 use Rattle.text.specs.declared.cells.Cells.the-variants as cells
 use Rattle.text.specs.Split.{space}
 use Rattle.text.specs.Number.{isDigit}

@@ -6,7 +6,7 @@ use mathlib.Core.Bool.{Bool, true, false, and-eq-true-iff}
 use Prim.Native.Nat.{ℕ}
 use borrow.Author.Tests.{eqb-true, eq-eqb}
 use lib.Dec.{eqb}
-use Rattle.bits.specs.Cases.{same-truth}
+use Rattle.bits.proofs.Cases.{same-truth}
 use Rattle.text.specs.declared.words.Word.{Word}
 use Rattle.text.specs.Bytes.{same}
 use Rattle.text.specs.Words.{orWord}

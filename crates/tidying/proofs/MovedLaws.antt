@@ -10,11 +10,14 @@ use native.Mathlib.Omega.{arith}
 use lib.Count.{trailingZeros}
 use lib.Pow.{shr-shr, shr-le}
 use lib.ListN.{length, getD, length-map, length-append}
-use Rattle.bits.specs.Bit.{bit, bit-shr, bit-above, bit-of-zero, clearBit}
-use Rattle.bits.specs.Cases.{lt-cases}
-use Rattle.bits.specs.Rows.{countBelow, rowsBelow, countOf, rowsOf, length-rows, rows-take, rows-skip, count-split}
-use Rattle.bits.specs.Scan.{tz-low, tz-bit}
-use Rattle.bits.specs.Words.{bitAt, bit-of-word}
+use Rattle.bits.specs.Bit.{bit, clearBit}
+use Rattle.bits.proofs.BitLaws.{bit-shr, bit-above, bit-of-zero}
+use Rattle.bits.proofs.Cases.{lt-cases}
+use Rattle.bits.specs.Rows.{countBelow, rowsBelow, countOf, rowsOf}
+use Rattle.bits.proofs.RowLaws.{length-rows, rows-take, rows-skip, count-split}
+use Rattle.bits.proofs.TrailingLaws.{tz-low, tz-bit}
+use Rattle.bits.specs.Words.{bitAt}
+use Rattle.bits.proofs.WordLaws.{bit-of-word}
 use Rattle.rules.specs.State.{Change}
 use Rattle.tables.specs.Stores.{putChange}
 use Rattle.history.specs.declared.changes.Last.{Last}

@@ -8,9 +8,11 @@ use native.Mathlib.Omega.{arith}
 use borrow.Rule.Slice.PartMut.{putMid}
 use lib.ListN.{length, take, drop}
 use Rattle.bits.specs.Bit.{xorb}
-use Rattle.bits.specs.Part.{putPart, part-back}
-use Rattle.bits.specs.Vec.{vec, length-vec}
-use Rattle.bits.specs.VecOps.{xor-vec}
+use Rattle.bits.specs.Part.{putPart}
+use Rattle.bits.proofs.PartLaws.{part-back}
+use Rattle.bits.specs.Vec.{vec}
+use Rattle.bits.proofs.VecLaws.{length-vec}
+use Rattle.bits.proofs.VecOps.{xor-vec}
 use Rattle.bits.specs.Words.{bitAt, Words, xorWords}
 use Rattle.tables.specs.Cells.{slotWords, endAt}
 use Rattle.tables.proofs.Slots.{length-slotWords, words-slotWords}

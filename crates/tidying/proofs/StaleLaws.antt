@@ -10,7 +10,8 @@ use borrow.Author.Tests.{eq-eqb, ne-eqb, le-leb, lt-leb, lt-ltb, le-ltb}
 use lib.Dec.{leb, ltb}
 use lib.ListN.{length}
 use Rattle.bits.specs.Bit.{bit}
-use Rattle.bits.specs.Rows.{countOf, count-le}
+use Rattle.bits.specs.Rows.{countOf}
+use Rattle.bits.proofs.RowLaws.{count-le}
 use Rattle.bits.specs.Words.{bitAt}
 use Rattle.rules.specs.Log.{someChange}
 use Rattle.rules.specs.Refusals.{firstOf}

@@ -10,8 +10,10 @@ use lib.ListN.{length, take, drop, length-map}
 use lib.Seq.{sets, sets-eq}
 use Rattle.bits.specs.Bit.{bit, clearBit}
 use Rattle.bits.specs.Part.{putPart}
-use Rattle.bits.specs.Rows.{countOf, rowsOf, length-rows}
-use Rattle.bits.specs.Vec.{vec, length-vec, bitAt-vec, vec-ext}
+use Rattle.bits.specs.Rows.{countOf, rowsOf}
+use Rattle.bits.proofs.RowLaws.{length-rows}
+use Rattle.bits.specs.Vec.{vec}
+use Rattle.bits.proofs.VecLaws.{length-vec, bitAt-vec, vec-ext}
 use Rattle.bits.specs.Words.{bitAt}
 use Rattle.rules.specs.Limits.{maxRecords, maxChanges, maxSlots}
 use Rattle.rules.specs.State.{Change, Chain, chain}

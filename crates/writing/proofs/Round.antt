@@ -10,7 +10,7 @@ use native.Mathlib.Omega.{arith}
 use borrow.Author.Tests.{eq-eqb, ne-eqb, le-leb}
 use lib.Dec.{eqb}
 use lib.ListN.{length, length-append}
-use Rattle.bits.specs.Cases.{lt-cases}
+use Rattle.bits.proofs.Cases.{lt-cases}
 use Rattle.rules.specs.Calls.{ok}
 use Rattle.text.specs.Bytes.{bytes}
 use Rattle.text.specs.Split.{before, split, space}

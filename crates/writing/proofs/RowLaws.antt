@@ -13,11 +13,14 @@ use lib.Count.{trailingZeros, under}
 use lib.Dec.{eqb}
 use lib.ListN.{length, getD, length-append, length-map}
 use lib.Seq.{sets}
-use Rattle.bits.specs.Bit.{bit, bit-zero, bit-suc, bit-of-zero, bit-above}
-use Rattle.bits.specs.Cases.{lt-cases}
-use Rattle.bits.specs.Words.{bitAt, bit-of-word}
-use Rattle.bits.specs.Rows.{rowsBelow, rowsOf, countOf, length-rows, count-le, rows-ext}
-use Rattle.bits.specs.Scan.{tz-bit}
+use Rattle.bits.specs.Bit.{bit}
+use Rattle.bits.proofs.BitLaws.{bit-zero, bit-suc, bit-of-zero, bit-above}
+use Rattle.bits.proofs.Cases.{lt-cases}
+use Rattle.bits.specs.Words.{bitAt}
+use Rattle.bits.proofs.WordLaws.{bit-of-word}
+use Rattle.bits.specs.Rows.{rowsBelow, rowsOf, countOf}
+use Rattle.bits.proofs.RowLaws.{length-rows, count-le, rows-ext}
+use Rattle.bits.proofs.TrailingLaws.{tz-bit}
 use Rattle.rules.specs.Calls.{ok, listed}
 use Rattle.text.specs.Show.{spaced, show}
 use Rattle.writing.specs.Wrote.{Wrote, Answered, fieldOf, wordRows}

@@ -9,7 +9,7 @@ use native.Mathlib.Omega.{arith}
 use borrow.Author.Tests.{lt-ltb, le-ltb}
 use lib.Dec.{ltb}
 use lib.ListN.{length, length-append}
-use Rattle.bits.specs.Cases.{lt-cases}
+use Rattle.bits.proofs.Cases.{lt-cases}
 use Rattle.rules.specs.Calls.{ok}
 use Rattle.text.specs.Show.{decimalBy, decimal, spaced, show}
 use Rattle.writing.specs.Wrote.{twoDigits, fourDigits, fieldOf}

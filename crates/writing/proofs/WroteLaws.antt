@@ -7,7 +7,7 @@ use Prim.Native.Nat.{ℕ, suc, _+_, _-_, _*_, _/_, _%_, _^_, _<_, _≤_}
 use native.Mathlib.Omega.{arith}
 use lib.ListN.{length, getD, set, length-append}
 use lib.Seq.{sets}
-use Rattle.bits.specs.Tab.{length-tab, getD-tab}
+use Rattle.bits.proofs.TabLaws.{length-tab, getD-tab}
 use Rattle.rules.specs.Calls.{Answer, refused, ok, value}
 use Rattle.text.specs.Bytes.{bytes}
 use Rattle.text.specs.Split.{newline}

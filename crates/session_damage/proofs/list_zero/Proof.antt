@@ -4,7 +4,8 @@ use mathlib.Core.Path.{_≡_}
 use Prim.Native.Nat.{_-_, _≤_}
 use native.Mathlib.Omega.{arith}
 use lib.ListN.{getD}
-use Rattle.bits.specs.OrWords.{orBelow, or-zero, or-more}
+use Rattle.bits.specs.OrWords.{orBelow}
+use Rattle.bits.proofs.OrLaws.{or-zero, or-more}
 use Rattle.session_damage.proofs.EntryLaws.{zero-gathered}
 use Rattle.session_damage.proofs.list_zero.Statement.{statement}
 use Rattle.session_damage.proofs.list_zero.Tie as tie

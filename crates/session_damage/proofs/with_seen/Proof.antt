@@ -3,7 +3,8 @@
 use Prim.Native.Nat.{_%_}
 use native.Mathlib.Omega.{arith}
 use borrow.Author.Needs.{needs}
-use Rattle.bits.specs.Bit.{setBit, one-shl}
+use Rattle.bits.specs.Bit.{setBit}
+use Rattle.bits.proofs.BitLaws.{one-shl}
 use Rattle.session_damage.proofs.with_seen.Statement.{statement}
 use Rattle.session_damage.proofs.with_seen.Tie as tie
 

@@ -8,7 +8,8 @@ use Rattle.lent.proofs.Kit.{whole, sub, look-in, look, init, forget, st
 use Rattle.lent.proofs.Kit.{assigns, number, flag, clock, session, after, arrives, Tree, leaf, both, env, Param, seen, given, own}
 use Rattle.lent.proofs.Kit.{Toks, Owned, longs-same, ty, cells, holds, Says, Ended-at, runs-as, span, laid, roomy, opened, closed}
 use Rattle.lent.proofs.Kit.{asks-values, asks-slice, cond, true, counting, and-true, and-assoc}
-use Rattle.bits.specs.All.{allBelow, all-none, all-more}
+use Rattle.bits.specs.All.{allBelow}
+use Rattle.bits.proofs.AllLaws.{all-none, all-more}
 use Rattle.tables.specs.declared.session.Session.{Session}
 use Rattle.tables.specs.declared.clock.Clock.{Clock}
 use Rattle.tables.specs.Sessions.{sessionAt}
