@@ -37,18 +37,13 @@ fn gather_rows(own: &mut [u64], col: &[u8], i: usize, from: usize, to: usize)
     }
 }
 
-// Word i of the rows of a column that hold v, in word v, for each v below 32. A whole word's rows come in two parts of a known length.
+// Word i of the rows of a column that hold v, in word v, for each v below 32.
 fn gather(own: &mut [u64], col: &[u8], i: usize)
     requires { ⌜ (256 ≤ length (now own)) × (i < 32) × (i * 64 ≤ length (now col)) ⌝ }
     ensures { λ _. ⌜ Gathered (now (col .entry)) i 64 (now (own .exit)) ⌝ }
 {
     vectors::clear(&mut own[..32]);
     let n = rows_of_word(col.len(), i);
-    if n == 64 {
-        gather_rows(own, col, i, 0, 32);
-        gather_rows(own, col, i, 32, 64);
-        return;
-    }
     gather_rows(own, col, i, 0, n);
 }
 

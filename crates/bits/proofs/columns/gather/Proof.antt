@@ -1,4 +1,4 @@
--- `bits::columns::gather` meets its contract. A whole word's rows are gathered in two parts, else those up to the column's end.
+-- `bits::columns::gather` meets its contract.
 -- Assumes nothing.
 use Rattle.bits.proofs.ColumnLaws.{front-words, gather-none, gather-all}
 use native.Mathlib.Omega.{arith}
@@ -11,22 +11,13 @@ slice-aggregate-clear c = search front-words
 
 gather-rows-requires : tie.Need-gather-rows-requires
 gather-rows-requires c κs =
-    let s = c .before .before .before .before .before .before .before .before .before .args in
-    let e = c .before .before .before .before .before .clear in
-    gather-none (s .col .now) (s .i) (e .last .0) (s .own .now) 32 (e .ensures) (omega arith) (omega arith) (omega arith)
-
-returns : tie.Need-returns
-returns c = search needs
-
-gather-rows-requires-3 : tie.Need-gather-rows-requires-3
-gather-rows-requires-3 c κs =
-    let s = c .before .before .before .before .before .before .before .before .before .args in
-    let e = c .before .before .before .before .before .clear in
-    let n = c .before .before .rows-of-word .result in
+    let s = c .before .before .before .before .before .before .before .before .args in
+    let e = c .before .before .before .before .clear in
+    let n = c .before .rows-of-word .result in
     gather-none (s .col .now) (s .i) (e .last .0) (s .own .now) n (e .ensures) (omega arith) (omega arith) (omega arith)
 
-returns-2 : tie.Need-returns-2
-returns-2 c = search gather-all
+returns : tie.Need-returns
+returns c = search gather-all
 
 pub gather-spec : {M : Type 1} → statement M
 gather-spec =
@@ -37,9 +28,5 @@ gather-spec =
     (λ c κs. search needs)
     (λ c κs. search needs)
     gather-rows-requires
-    (λ c κs. search needs)
     (λ c. search needs)
-    returns
-    gather-rows-requires-3
-    (λ c. search needs)
-    returns-2)
+    returns)
