@@ -1,17 +1,11 @@
 // Numbers as sets of bits: flip sets (bit v of a u32 for the value v) and vectors (bit r of words of 64 for the row r).
 // The contracts cite specs/, where `vec f n` is the n words whose row r is f r. Assumes nothing.
 mod columns;
-mod numbers;
 mod sets;
 mod vectors;
+mod widths;
 
 pub use columns::set_columns;
-pub use numbers::long;
-pub use numbers::narrow;
-pub use numbers::short;
-pub use numbers::wide;
-pub use numbers::wide_byte;
-pub use numbers::wide_short;
 pub use sets::all_below;
 pub use sets::has;
 pub use sets::toggle;
@@ -25,3 +19,9 @@ pub use vectors::put_in;
 pub use vectors::tail_clear;
 pub use vectors::tails_clear;
 pub use vectors::xor_into;
+pub use widths::long;
+pub use widths::narrow;
+pub use widths::short;
+pub use widths::wide;
+pub use widths::wide_byte;
+pub use widths::wide_short;

@@ -20,7 +20,7 @@ use Rattle.tables.specs.Stretch.{stretch}
 use Rattle.tables.specs.Meaning.{changeAt, recordAt, entryAt, entries}
 use Rattle.tables.proofs.Stretch.{stretch-none, stretch-front, tab-stretch, drop-tab}
 use Rattle.committing.specs.Commit.{Searched}
-use Rattle.calls.proofs.ListLaws.{entry-new, entry-row}
+use Rattle.outcomes.proofs.ListLaws.{entry-new, entry-row}
 
 -- ---- one entry
 

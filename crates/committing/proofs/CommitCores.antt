@@ -27,22 +27,22 @@ use Rattle.history.specs.Last.{lastSet}
 use Rattle.history.specs.Read.{readCells}
 use Rattle.history.proofs.Meets.{flipSet-meets, read-meets}
 use Rattle.lent.specs.declared.seats.Seat.{Seat}
-use Rattle.calls.specs.declared.answers.Freed.{Freed}
-use Rattle.calls.specs.declared.answers.Answer.{Answer}
-use Rattle.calls.specs.declared.enter.Test.the-variants.{Passed, No}
-use Rattle.calls.specs.Said.{numbers}
-use Rattle.calls.specs.Outcome.{Outcome, outcome}
-use Rattle.calls.specs.Stores.{stores}
-use Rattle.calls.specs.Calls.{commitRows, commitStores, commitOf}
-use Rattle.calls.specs.Seats.{frees, freesNone, freeing, Serves}
-use Rattle.calls.specs.Enter.{whyOf, openedBy}
-use Rattle.calls.specs.Opened.{Usable, OpenIn, Settles}
+use Rattle.outcomes.specs.declared.answers.Freed.{Freed}
+use Rattle.outcomes.specs.declared.answers.Answer.{Answer}
+use Rattle.outcomes.specs.declared.enter.Test.the-variants.{Passed, No}
+use Rattle.outcomes.specs.Said.{numbers}
+use Rattle.outcomes.specs.Outcome.{Outcome, outcome}
+use Rattle.outcomes.specs.Stores.{stores}
+use Rattle.outcomes.specs.Calls.{commitRows, commitStores, commitOf}
+use Rattle.outcomes.specs.Seats.{frees, freesNone, freeing, Serves}
+use Rattle.outcomes.specs.Enter.{whyOf, openedBy}
+use Rattle.outcomes.specs.Opened.{Usable, OpenIn, Settles}
 use Rattle.committing.specs.Commit.{commitTests, toggledIn, newCells, insertCells, CommitReady, changesMade, Committed}
-use Rattle.calls.specs.declared.enter.Test as asked
-use Rattle.calls.proofs.Entered.{opened-goes, opened-shows}
-use Rattle.calls.proofs.Serving.{idle-freeing, freed-left, refused-outcome, accepted-outcome, opened-refused}
-use Rattle.calls.proofs.StoreLaws.{commit-stores}
-use Rattle.calls.proofs.OpenLaws.{open-session, open-facts}
+use Rattle.outcomes.specs.declared.enter.Test as asked
+use Rattle.outcomes.proofs.Entered.{opened-goes, opened-shows}
+use Rattle.outcomes.proofs.Serving.{idle-freeing, freed-left, refused-outcome, accepted-outcome, opened-refused}
+use Rattle.outcomes.proofs.StoreLaws.{commit-stores}
+use Rattle.outcomes.proofs.OpenLaws.{open-session, open-facts}
 use Rattle.committing.proofs.CommitTests.{commit-ready, commit-refusal}
 
 -- ---- the flip sets of values below C, and the changes of a list that fits

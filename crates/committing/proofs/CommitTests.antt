@@ -28,12 +28,12 @@ use Rattle.tables.specs.Stretch.{stretch}
 use Rattle.tables.specs.declared.session.Session as cells
 use Rattle.tables.proofs.Facts.{room-facts, parts, clock-limits, last-end, end-high}
 use Rattle.tables.proofs.Means.{rows-means, log-means, above-means, stamp-means, changes-means, length-entries}
-use Rattle.calls.specs.Outcome.{refusalAt}
-use Rattle.calls.specs.Opened.{Usable, OpenIn}
+use Rattle.outcomes.specs.Outcome.{refusalAt}
+use Rattle.outcomes.specs.Opened.{Usable, OpenIn}
 use Rattle.committing.specs.Commit.{Searched, CommitAsked, commitTests, CommitReady}
-use Rattle.calls.proofs.Entered.{bare}
+use Rattle.outcomes.proofs.Entered.{bare}
 use Rattle.committing.proofs.CommitWork.{rows-inserts}
-use Rattle.calls.proofs.OpenLaws.{open-session}
+use Rattle.outcomes.proofs.OpenLaws.{open-session}
 
 -- ---- what the code finds
 

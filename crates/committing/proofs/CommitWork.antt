@@ -19,12 +19,12 @@ use Rattle.tables.specs.Meaning.{entries}
 use Rattle.tables.proofs.Facts.{Room, room-facts, parts, ClockLimits, clock-limits, end-high}
 use Rattle.tables.proofs.Means.{length-entries}
 use Rattle.history.proofs.Ready.{read-ready}
-use Rattle.calls.specs.declared.answers.Answer.{Answer}
-use Rattle.calls.specs.Stores.{putChanges}
+use Rattle.outcomes.specs.declared.answers.Answer.{Answer}
+use Rattle.outcomes.specs.Stores.{putChanges}
 use Rattle.committing.specs.Commit.{newCells, insertCells, RowsReady, RowsStored, InsertsReady, Recorded, CommitReady}
 use Rattle.committing.specs.Commit.{changesMade, Committed}
-use Rattle.calls.proofs.Entered.{bare}
-use Rattle.calls.proofs.StoreLaws.{length-changes, changes-append}
+use Rattle.outcomes.proofs.Entered.{bare}
+use Rattle.outcomes.proofs.StoreLaws.{length-changes, changes-append}
 
 -- a change for each entry: each is a row or an insert
 pub rows-inserts : (g : ℕ → Option ℕ → ℕ) (es : List Entry) → length (rowChanges g es) + length (inserts es) ≡ length es

@@ -30,12 +30,12 @@ use Rattle.history.specs.Last.{lastSet, lastOf}
 use Rattle.history.specs.Read.{standingOf, readCells, readAfter, Readable, ReadReady}
 use Rattle.history.proofs.ReadLaws.{read-is}
 use Rattle.history.proofs.Kept.{set-kept, read-kept}
-use Rattle.calls.specs.declared.answers.Answer.the-variants.{At}
-use Rattle.calls.specs.Stores.{putChanges}
+use Rattle.outcomes.specs.declared.answers.Answer.the-variants.{At}
+use Rattle.outcomes.specs.Stores.{putChanges}
 use Rattle.committing.specs.Commit.{toggledIn, newCells, insertCells, RowReady, RowsReady, RowsStored, InsertsReady, InsertsStored}
 use Rattle.committing.specs.Commit.{Recorded}
-use Rattle.calls.proofs.StoreLaws.{changes-before, changes-snoc}
-use Rattle.calls.proofs.ListLaws.{inserts-new, inserts-row, rows-new, rows-row}
+use Rattle.outcomes.proofs.StoreLaws.{changes-before, changes-snoc}
+use Rattle.outcomes.proofs.ListLaws.{inserts-new, inserts-row, rows-new, rows-row}
 
 -- ---- a value toggled
 

@@ -21,10 +21,10 @@ use Rattle.tables.specs.Meaning.{changeAt, recordAt, entryAt, entries}
 use Rattle.tables.specs.Stretch.{stretch}
 use Rattle.history.specs.Last.{lastSet}
 use Rattle.history.specs.Read.{readCells, ReadReady}
-use Rattle.calls.specs.declared.answers.Answer.{Answer}
-use Rattle.calls.specs.Said.{said, numbers}
-use Rattle.calls.specs.Stores.{putChanges}
-use Rattle.calls.specs.Opened.{Usable}
+use Rattle.outcomes.specs.declared.answers.Answer.{Answer}
+use Rattle.outcomes.specs.Said.{said, numbers}
+use Rattle.outcomes.specs.Stores.{putChanges}
+use Rattle.outcomes.specs.Opened.{Usable}
 
 -- ---- the search for a clash
 

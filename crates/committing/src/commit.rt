@@ -1,19 +1,19 @@
 // Commit: its refusals, and what it writes. Assumes nothing.
 use crate::clash;
 use crate::writes;
-use calls::Freed;
-use calls::Test;
 use lent::Seat;
+use outcomes::Freed;
+use outcomes::Test;
 use tables::Refusal;
 use tables::Session;
 ghost use mathlib.Core.Path.{_≡_};
 ghost use mathlib.Core.List.{[]};
 ghost use Rattle.rules.specs.Refusals.{firstOf};
 ghost use Rattle.tables.specs.Cells.{tables};
-ghost use Rattle.calls.specs.Calls.{commitOf};
-ghost use Rattle.calls.specs.Seats.{freeing, Serves};
-ghost use Rattle.calls.specs.Enter.{whyOf};
-ghost use Rattle.calls.specs.Opened.{Usable, Settles};
+ghost use Rattle.outcomes.specs.Calls.{commitOf};
+ghost use Rattle.outcomes.specs.Seats.{freeing, Serves};
+ghost use Rattle.outcomes.specs.Enter.{whyOf};
+ghost use Rattle.outcomes.specs.Opened.{Usable, Settles};
 ghost use Rattle.committing.specs.Commit.{CommitAsked, commitTests};
 
 // The refusals 11, 12, 15, 16 and 17.
@@ -30,7 +30,7 @@ fn ready(clock: &[u32], log: &[u32], changes: &[u32], s: Session) -> Test
     if clash::clash(log, changes, s, stamp) {
         return Test::No(Refusal::Conflict);
     }
-    if tables::MAX_ROWS < rows.0 + calls::inserts(s) {
+    if tables::MAX_ROWS < rows.0 + outcomes::inserts(s) {
         return Test::No(Refusal::RowsFull);
     }
     if tables::MAX_RECORDS <= stamp.0 {
@@ -62,10 +62,10 @@ fn commit_now(
 {
     let go = ready(clock, log, changes, s);
     match go {
-        Test::No(why) => calls::none_freed(why),
+        Test::No(why) => outcomes::none_freed(why),
         Test::Passed => {
             let answer = writes::commit_work(clock, slots, words, heads, log, changes, s);
-            calls::made_free(answer)
+            outcomes::made_free(answer)
         }
     }
 }
@@ -88,9 +88,9 @@ pub fn commit_in(
         (now (changes .exit))) [] seat n (freeing r n) (r .answer) (λ t. commitOf t n) ⌝ }
 {
     let s = seat.session;
-    let test = calls::opened(clock, slots, words, heads, log, changes, seat, n);
+    let test = outcomes::opened(clock, slots, words, heads, log, changes, seat, n);
     match test {
-        Test::No(why) => calls::none_freed(why),
+        Test::No(why) => outcomes::none_freed(why),
         Test::Passed => commit_now(clock, slots, words, heads, log, changes, s, n),
     }
 }

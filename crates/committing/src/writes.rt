@@ -1,6 +1,6 @@
 // What an accepted commit writes: the changes of the listed rows and of the inserts, the record, the clock. Assumes nothing.
-use calls::Answer;
 use history::Standing;
+use outcomes::Answer;
 use tables::Row;
 use tables::Session;
 use tables::Stamp;
@@ -14,7 +14,7 @@ ghost use Rattle.tables.specs.Cells.{valuesIn, stampIn, changesIn};
 ghost use Rattle.tables.specs.Stores.{putChange};
 ghost use Rattle.tables.specs.Meaning.{targetOf, entries};
 ghost use Rattle.history.specs.Read.{standingOf, ReadReady};
-ghost use Rattle.calls.specs.Stores.{putChanges};
+ghost use Rattle.outcomes.specs.Stores.{putChanges};
 ghost use Rattle.committing.specs.Commit.{toggledIn, newCells, insertCells, RowReady, RowsReady, RowsStored, InsertsReady};
 ghost use Rattle.committing.specs.Commit.{Recorded, CommitReady, changesMade, Committed};
 
@@ -54,7 +54,7 @@ fn new_set(
     let values = c.values;
     let last = history::last_naming(changes, tables::end_at(log, start), row);
     let held = history::read_after(slots, words, heads, log, values, start, row, last);
-    toggled(toggled(last.set, held), calls::target_of(to))
+    toggled(toggled(last.set, held), outcomes::target_of(to))
 }
 
 // The change of listed row i is written at p.
@@ -208,7 +208,7 @@ pub fn commit_work(
 {
     let c = tables::clock_of(clock);
     let rows = c.rows;
-    let after = Row(rows.0 + calls::inserts(s));
+    let after = Row(rows.0 + outcomes::inserts(s));
     let end = tables::changes_used(clock) + s.count;
     write_changes(clock, slots, words, heads, log, changes, s);
     write_commit(clock, log, after, end)

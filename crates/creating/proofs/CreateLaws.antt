@@ -32,16 +32,16 @@ use Rattle.tables.specs.Refusals.{numberOf}
 use Rattle.tables.specs.Room.{roomFor}
 use Rattle.tables.proofs.Facts.{room-is, room-lengths}
 use Rattle.lent.specs.Places.{allFreed}
-use Rattle.calls.specs.declared.answers.Answer.{Answer}
-use Rattle.calls.specs.declared.answers.Answer.the-variants.{Count}
-use Rattle.calls.specs.declared.answers.Freed.{Freed}
-use Rattle.calls.specs.Said.{said, numbers, no}
-use Rattle.calls.specs.Outcome.{outcome, refusalOfCreate, unless}
-use Rattle.calls.specs.Calls.{below, columnOf, createdTables, createOf}
+use Rattle.outcomes.specs.declared.answers.Answer.{Answer}
+use Rattle.outcomes.specs.declared.answers.Answer.the-variants.{Count}
+use Rattle.outcomes.specs.declared.answers.Freed.{Freed}
+use Rattle.outcomes.specs.Said.{said, numbers, no}
+use Rattle.outcomes.specs.Outcome.{outcome, refusalOfCreate, unless}
+use Rattle.outcomes.specs.Calls.{below, columnOf, createdTables, createOf}
 use Rattle.creating.specs.Create.{Creatable, Created}
-use Rattle.calls.specs.Seats.{frees, freesNone, freeingAll, Creates}
-use Rattle.calls.specs.Narrow.{narrowed}
-use Rattle.calls.proofs.NarrowLaws.{narrow-cases}
+use Rattle.outcomes.specs.Seats.{frees, freesNone, freeingAll, Creates}
+use Rattle.outcomes.specs.Narrow.{narrowed}
+use Rattle.outcomes.proofs.NarrowLaws.{narrow-cases}
 
 -- ---- the column's test
 

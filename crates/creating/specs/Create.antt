@@ -8,9 +8,9 @@ use Rattle.tables.specs.declared.session.Session.{Session}
 use Rattle.tables.specs.Cells.{Tables}
 use Rattle.tables.specs.Room.{Roomy}
 use Rattle.lent.specs.Places.{freedAll}
-use Rattle.calls.specs.declared.answers.Answer.{Answer}
-use Rattle.calls.specs.declared.answers.Answer.the-variants.{Count}
-use Rattle.calls.specs.Calls.{createdTables}
+use Rattle.outcomes.specs.declared.answers.Answer.{Answer}
+use Rattle.outcomes.specs.declared.answers.Answer.the-variants.{Count}
+use Rattle.outcomes.specs.Calls.{createdTables}
 
 -- what create needs
 pub record Creatable (clock slots words heads log changes : List ℕ) (c : ℕ) (col : List ℕ) : Type 0 where

@@ -1,6 +1,6 @@
 // Create. Assumes nothing.
-use calls::Answer;
-use calls::Freed;
+use outcomes::Answer;
+use outcomes::Freed;
 use tables::Clock;
 use tables::Refusal;
 use tables::Row;
@@ -15,9 +15,9 @@ ghost use Rattle.bits.specs.Vec.{vec};
 ghost use Rattle.bits.specs.Column.{columnBit};
 ghost use Rattle.rules.specs.Refusals.{someOutside, badColumn};
 ghost use Rattle.tables.specs.Cells.{tables};
-ghost use Rattle.calls.specs.Calls.{below, columnOf, createOf};
+ghost use Rattle.outcomes.specs.Calls.{below, columnOf, createOf};
 ghost use Rattle.creating.specs.Create.{Creatable, Created};
-ghost use Rattle.calls.specs.Seats.{Creates};
+ghost use Rattle.outcomes.specs.Seats.{Creates};
 
 // Whether each byte of a column is below C or 255.
 fn column_known(column: &[u8], values: Value) -> bool
@@ -131,12 +131,12 @@ pub fn create_in(
     ensures { λ r. ⌜ Creates (tables (now (clock .entry)) (now (slots .entry)) (now (words .entry)) (now (heads .entry)) (now (log .entry)) (now (changes .entry))) (tables (now (clock .exit)) (now (slots .exit)) (now (words .exit)) (now (heads .exit)) (now (log .exit)) (now (changes .exit))) places r (λ t. createOf t c (now (column .entry))) ⌝ }
 {
     if !damage::room(clock, slots, words, heads, log, changes, places) {
-        return calls::none_freed(Refusal::NoRoom);
+        return outcomes::none_freed(Refusal::NoRoom);
     }
-    let values = calls::value_of(c);
+    let values = outcomes::value_of(c);
     if column_refused(values, column) {
-        return calls::none_freed(Refusal::BadColumn);
+        return outcomes::none_freed(Refusal::BadColumn);
     }
     let answer = create_work(clock, slots, words, heads, log, changes, values, column);
-    calls::made_free(answer)
+    outcomes::made_free(answer)
 }

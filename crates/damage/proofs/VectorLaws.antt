@@ -14,7 +14,7 @@ use Rattle.bits.specs.Tail.{tailClear}
 use Rattle.bits.proofs.TailLaws.{tail-bits, tail-of-bits}
 use Rattle.bits.specs.Vectors.{vectorAt, tailsClear}
 use Rattle.tables.specs.declared.clock.Clock.{Clock}
-use Rattle.tables.specs.Cells.{firstIn, slotsIn, slotStamp, slotWords, rowsAt}
+use Rattle.tables.specs.Cells.{firstIn, slotsIn, slotStamp, slotWords, rowsInLog}
 use Rattle.tables.specs.Clock.{clockIn}
 use Rattle.tables.specs.Damage.{clockFits, recordsFit, slotsFit, vectorFits, vectorsFit}
 use Rattle.tables.proofs.Facts.{clock-limits, first-low}
@@ -25,12 +25,12 @@ tail-wider : (ws : List ℕ) (a b : ℕ) → a ≤ b → tailClear ws a ≡ true
 tail-wider ws a b h e = tail-of-bits ws b (λ r l. tail-bits ws a e r (omega arith))
 
 -- vector i as the code lends it
-pub one-vector : (first : ℕ) (log slots words : List ℕ) (i s w rows : ℕ) (b : Bool) → s ≡ slotStamp slots i → w ≡ rowsAt first log s
+pub one-vector : (first : ℕ) (log slots words : List ℕ) (i s w rows : ℕ) (b : Bool) → s ≡ slotStamp slots i → w ≡ rowsInLog first log s
     → rows ≡ w
     → b ≡ tailClear (take (32 * i + 32 - 32 * i) (drop (32 * i) words)) rows → b ≡ vectorFits first log slots words i
 unfolding vectorFits slotWords part
 one-vector first log slots words i s w rows b e f g q =
-    q ∙ ap₂ tailClear (part-lent (32 * i) 32 words) (g ∙ f ∙ ap (rowsAt first log) e)
+    q ∙ ap₂ tailClear (part-lent (32 * i) 32 words) (g ∙ f ∙ ap (rowsInLog first log) e)
 
 pub room-for : (words : List ℕ) (n : ℕ) → n ≤ 96 → 3072 ≤ length words → 32 * n ≤ length words
 room-for words n h l = omega arith
@@ -54,7 +54,7 @@ module _ (clock log slots words : List ℕ) (c : Clock) (u n first : ℕ) (t : B
   unfolding tailsClear vectorAt part slotWords clockIn
   clear-from-first k r s f g q y =
       sym (vectors-made clock log slots words
-      (λ i l. tail-wider (slotWords words i) k (rowsAt (firstIn clock) log (slotStamp slots i))
+      (λ i l. tail-wider (slotWords words i) k (rowsInLog (firstIn clock) log (slotStamp slots i))
       (omega (arith, first-low clock log r (slotStamp slots i) (slot-stamp-low clock slots s i l), ap (λ (x : Clock). x .first .0) e))
       (all-at (λ j. tailClear (vectorAt words j) k) n (sym q ∙ y) i (omega arith))))
 

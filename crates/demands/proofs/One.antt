@@ -17,10 +17,10 @@ use Rattle.tables.specs.Cells.{Tables}
 use Rattle.tables.specs.Room.{roomy}
 use Rattle.tables.specs.Damage.{sound}
 use Rattle.tables.specs.Meaning.{meaning}
-use Rattle.calls.specs.Said.{Said, no, numbers, value, words}
-use Rattle.calls.specs.Outcome.{Outcome, refusalAt, refusalOfCreate, unless}
-use Rattle.calls.specs.Calls.{own, beginning, createOf, beginOf, readOf, updateOf, deleteOf, insertOf, commitOf, tidyOf, abortOf}
-use Rattle.calls.specs.Query.{flipsSeen, asked, queryOf}
+use Rattle.outcomes.specs.Said.{Said, no, numbers, value, words}
+use Rattle.outcomes.specs.Outcome.{Outcome, refusalAt, refusalOfCreate, unless}
+use Rattle.outcomes.specs.Calls.{own, beginning, createOf, beginOf, readOf, updateOf, deleteOf, insertOf, commitOf, tidyOf, abortOf}
+use Rattle.outcomes.specs.Query.{flipsSeen, asked, queryOf}
 use Rattle.demands.specs.Asks.{Ask, create, begin, query, read, update, delete, insert, commit, tidy, abort, callOf, buffersOf}
 use Rattle.demands.specs.Asks.{comesTo}
 use Rattle.demands.specs.Conditions.{noRoom, damaged, conditions}

@@ -18,7 +18,7 @@ use Rattle.rules.proofs.Run.{Inv, start-inv, step-keeps}
 use Rattle.tables.specs.Cells.{Tables}
 use Rattle.tables.specs.Room.{roomy}
 use Rattle.tables.specs.Meaning.{meaning}
-use Rattle.calls.specs.Calls.{columnOf, createOf}
+use Rattle.outcomes.specs.Calls.{columnOf, createOf}
 use Rattle.follow.specs.Good.{Good}
 use Rattle.follow.proofs.Create.{create-creates}
 use Rattle.demands.specs.Asks.{Ask, query, read, commit, tidy, callOf, comesTo, told, tablesAfter, transcriptOf}

@@ -28,8 +28,8 @@ use Rattle.rules.proofs.EveryRun.{right}
 use Rattle.tables.specs.Cells.{Tables}
 use Rattle.tables.specs.Room.{roomy}
 use Rattle.tables.specs.Meaning.{meaning}
-use Rattle.calls.specs.Outcome.{refusalOfCreate, unless}
-use Rattle.calls.specs.Calls.{columnOf, createOf}
+use Rattle.outcomes.specs.Outcome.{refusalOfCreate, unless}
+use Rattle.outcomes.specs.Calls.{columnOf, createOf}
 use Rattle.follow.specs.Good.{Good}
 use Rattle.follow.specs.Follows.{Follows}
 use Rattle.follow.proofs.Create.{create-creates}

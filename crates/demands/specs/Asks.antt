@@ -6,9 +6,9 @@ use lib.ListN.{length}
 use Rattle.rules.specs.Calls.{Call, Answer}
 use Rattle.rules.specs.Calls as rules
 use Rattle.tables.specs.Cells.{Tables}
-use Rattle.calls.specs.Outcome.{Outcome}
-use Rattle.calls.specs.Calls.{createOf, beginOf, readOf, updateOf, deleteOf, insertOf, commitOf, tidyOf, abortOf, columnOf}
-use Rattle.calls.specs.Query.{queryOf}
+use Rattle.outcomes.specs.Outcome.{Outcome}
+use Rattle.outcomes.specs.Calls.{createOf, beginOf, readOf, updateOf, deleteOf, insertOf, commitOf, tidyOf, abortOf, columnOf}
+use Rattle.outcomes.specs.Query.{queryOf}
 use Rattle.follow.specs.Heard.{heard}
 
 -- a call with its arguments: session, then row, then value, where it has them

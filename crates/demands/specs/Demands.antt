@@ -16,8 +16,8 @@ use Rattle.rules.specs.Demand.{Overtaken, Right}
 use Rattle.rules.specs.Moved.{MovesRows}
 use Rattle.tables.specs.Cells.{Tables}
 use Rattle.tables.specs.Meaning.{meaning}
-use Rattle.calls.specs.Said.{no}
-use Rattle.calls.specs.Calls.{columnOf}
+use Rattle.outcomes.specs.Said.{no}
+use Rattle.outcomes.specs.Calls.{columnOf}
 use Rattle.follow.specs.Good.{Good}
 use Rattle.follow.specs.Follows.{Follows}
 use Rattle.demands.specs.Asks.{Ask, create, begin, query, read, commit, tidy, callOf, buffersOf, comesTo, told, tablesAfter}

@@ -15,8 +15,8 @@ use Rattle.lent.proofs.Slices.{Param, lent}
 use Rattle.lent.proofs.Lent.{Says, Callee}
 use Rattle.lent.proofs.place.Symbol as place-def
 use Rattle.lent.proofs.place.Met as place-thm
-use Rattle.calls.specs.Said.{said}
-use Rattle.calls.specs.Outcome.{outcome}
+use Rattle.outcomes.specs.Said.{said}
+use Rattle.outcomes.specs.Outcome.{outcome}
 pub use Rattle.index.proofs.Calls.{Comes-to}
 use Rattle.index.proofs.Calls.{Call, creates, the-answer, tabs, past}
 use Rattle.door.specs.Accepts.{accepts}

@@ -28,14 +28,14 @@ use Rattle.tables.specs.Sessions.{freed, begun, sessionAt}
 use Rattle.tables.specs.Clock.{clockIn}
 use Rattle.tables.specs.Meaning.{meaning}
 use Rattle.lent.specs.Places.{seatAt, putAt, allFreed}
-use Rattle.calls.specs.Said.{Said, numbers}
-use Rattle.calls.specs.Outcome.{Outcome, outcome, refusalAt, refusalOfCreate, unless}
-use Rattle.calls.specs.Stores.{clockCell, slotCell, headCell, wordStores}
-use Rattle.calls.specs.Calls.{own, reseated, beginning, columnOf, createdTables, createOf, beginOf, readOf, updateOf, deleteOf, insertOf}
-use Rattle.calls.specs.Calls.{commitOf, tidyOf, abortOf}
-use Rattle.calls.specs.Query.{flipsSeen, asked, queryOf}
-use Rattle.calls.proofs.Serving.{accepted}
-use Rattle.calls.proofs.StoreLaws.{commit-stores, version-stores, log-stores}
+use Rattle.outcomes.specs.Said.{Said, numbers}
+use Rattle.outcomes.specs.Outcome.{Outcome, outcome, refusalAt, refusalOfCreate, unless}
+use Rattle.outcomes.specs.Stores.{clockCell, slotCell, headCell, wordStores}
+use Rattle.outcomes.specs.Calls.{own, reseated, beginning, columnOf, createdTables, createOf, beginOf, readOf, updateOf, deleteOf, insertOf}
+use Rattle.outcomes.specs.Calls.{commitOf, tidyOf, abortOf}
+use Rattle.outcomes.specs.Query.{flipsSeen, asked, queryOf}
+use Rattle.outcomes.proofs.Serving.{accepted}
+use Rattle.outcomes.proofs.StoreLaws.{commit-stores, version-stores, log-stores}
 use Rattle.door.specs.Accepts.{accepts}
 
 -- ---- a place

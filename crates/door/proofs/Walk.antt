@@ -49,7 +49,7 @@ use Rattle.lent.proofs.Slices.{holds}
 use Rattle.lent.proofs.Lent.{Says, Meets, Callee, knows, function, calls-on, stores, leaves, runs-as}
 use Rattle.lent.proofs.Passes.{same-then, leaf-read, values, no-lives, no-parts, no-sites, values-owned}
 use Rattle.index.proofs.Calls.{the-answer}
-use Rattle.calls.specs.declared.answers.Answer.{Answer}
+use Rattle.outcomes.specs.declared.answers.Answer.{Answer}
 use Rattle.door.specs.declared.Sessions.{Sessions}
 use Rattle.door.specs.declared.Held.{Held as Answered}
 use Rattle.door.proofs.Held as H

@@ -1,7 +1,7 @@
 -- Which answers are no refusal.
 -- Assumes nothing.
 use mathlib.Core.Bool.{Bool, true, false}
-use Rattle.calls.specs.Said.{Said, no, numbers, value, words}
+use Rattle.outcomes.specs.Said.{Said, no, numbers, value, words}
 
 -- a call is accepted unless its answer is a refusal's number
 unfoldable pub accepts : Said → Bool

@@ -1,15 +1,15 @@
 // The ten calls, of a program that holds its session table by value: each lends the table to the call of `index`, and hands back with the
 // answer the one session that the call may have changed; create, which may free all sixteen, hands back none.
-use calls::Answer;
+use outcomes::Answer;
 use tables::Session;
 ghost use mathlib.Core.Path.{_≡_};
 ghost use mathlib.Core.List.{[], _∷_};
 ghost use Rattle.tables.specs.Cells.{tables};
 ghost use Rattle.lent.specs.Places.{putAt, allFreed};
-ghost use Rattle.calls.specs.Said.{said};
-ghost use Rattle.calls.specs.Outcome.{outcome};
-ghost use Rattle.calls.specs.Calls.{createOf, beginOf, readOf, updateOf, deleteOf, insertOf, commitOf, tidyOf, abortOf};
-ghost use Rattle.calls.specs.Query.{queryOf};
+ghost use Rattle.outcomes.specs.Said.{said};
+ghost use Rattle.outcomes.specs.Outcome.{outcome};
+ghost use Rattle.outcomes.specs.Calls.{createOf, beginOf, readOf, updateOf, deleteOf, insertOf, commitOf, tidyOf, abortOf};
+ghost use Rattle.outcomes.specs.Query.{queryOf};
 ghost use Rattle.door.specs.Accepts.{accepts};
 
 // The session table of a program that holds it.

@@ -23,10 +23,10 @@ use Rattle.tables.proofs.Facts.{last-rows}
 use Rattle.tables.proofs.Sessions.{OpenFacts}
 use Rattle.tables.proofs.Means.{stamp-means, rows-means, open-means, free-means, length-entries}
 use Rattle.tables.proofs.Stores.{begun-means, freed-means}
-use Rattle.calls.specs.Said.{numbers}
-use Rattle.calls.specs.Outcome.{outcome}
-use Rattle.calls.specs.Calls.{own, reseated, beginning, beginOf, abortOf}
-use Rattle.calls.proofs.Entered.{seat-means}
+use Rattle.outcomes.specs.Said.{numbers}
+use Rattle.outcomes.specs.Outcome.{outcome}
+use Rattle.outcomes.specs.Calls.{own, reseated, beginning, beginOf, abortOf}
+use Rattle.outcomes.proofs.Entered.{seat-means}
 use Rattle.follow.specs.Good.{Good, Wide}
 use Rattle.follow.specs.Follows.{Follows}
 use Rattle.follow.proofs.Good.{good-parts, good-seated, good-freed, Meets, meets-by, follows, place-low, seated-means, open-seat}

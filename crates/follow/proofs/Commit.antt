@@ -29,7 +29,7 @@ use Rattle.rules.specs.Tidy.{moved, tidyChange, tidyChanges}
 use Rattle.rules.proofs.Invariant.{Undamaged}
 use Rattle.rules.proofs.Fits.{length-made, queried-beyond}
 use Rattle.tables.specs.Cells.{Tables, stampIn, slotsIn, changesIn, tables, valuesIn, firstIn, rowsIn, slotStamp, slotWords, headOf}
-use Rattle.tables.specs.Cells.{rowsAt}
+use Rattle.tables.specs.Cells.{rowsInLog}
 use Rattle.tables.specs.Sessions.{freed}
 use Rattle.tables.specs.Meaning.{entries, meaning, chainAt}
 use Rattle.tables.specs.Stores.{putSlot, putHead}
@@ -37,11 +37,11 @@ use Rattle.tables.proofs.Means.{stamp-means, rows-means, changes-means, length-
 use Rattle.tables.proofs.Stores.{freed-means, session-put, length-slot, length-head}
 use Rattle.tables.proofs.Facts.{whole, clock-limits}
 use Rattle.tables.proofs.Undamaged.{means-undamaged}
-use Rattle.calls.specs.Said.{numbers}
-use Rattle.calls.specs.Stores.{stores, putChanges, clockCell, slotCell, headCell, wordStores}
-use Rattle.calls.specs.Outcome.{outcome}
-use Rattle.calls.specs.Calls.{own, commitRows, commitStores, commitOf, reseated, tidyStores, tidyOf}
-use Rattle.calls.proofs.StoreLaws.{commit-stores, version-stores, log-stores}
+use Rattle.outcomes.specs.Said.{numbers}
+use Rattle.outcomes.specs.Stores.{stores, putChanges, clockCell, slotCell, headCell, wordStores}
+use Rattle.outcomes.specs.Outcome.{outcome}
+use Rattle.outcomes.specs.Calls.{own, commitRows, commitStores, commitOf, reseated, tidyStores, tidyOf}
+use Rattle.outcomes.proofs.StoreLaws.{commit-stores, version-stores, log-stores}
 use Rattle.follow.specs.Good.{Good}
 use Rattle.follow.specs.Follows.{Follows}
 use Rattle.follow.proofs.Good.{good-room, good-parts, follows, Open, open-seat, good-freed, value-low}
@@ -283,7 +283,7 @@ module _ (t : Tables) (g : Good t) (s v : ℕ) (f : TidyFits t s v) where
   -- no bit of the new vector is at or above the row count of its stamp
   new-vector : (i : ℕ) → slotsIn (t .clock) ≤ i → i < slotsIn (t .clock) + 1
       → tailClear (slotWords (tidyWords t s v) i)
-      (rowsAt (firstIn (tidyClock t s v)) (newLog (t .clock) (t .log) 2 (rowsIn (t .clock)) (tidyEnd t s v)) (slotStamp (tidySlots t s v) i)) ≡ true
+      (rowsInLog (firstIn (tidyClock t s v)) (newLog (t .clock) (t .log) 2 (rowsIn (t .clock)) (tidyEnd t s v)) (slotStamp (tidySlots t s v) i)) ≡ true
   new-vector i h l =
       let e : i ≡ slotsIn (t .clock) = omega arith in
       rw (e, new-words slot, new-stamp slot, add-one (stampIn (t .clock)), rows-new tidy-next)

@@ -33,7 +33,7 @@ use Rattle.rules.specs.Step.{firstChain, created, effect, step}
 use Rattle.rules.specs.Refusals.{badColumn, tests}
 use Rattle.rules.proofs.Agrees.{good-column}
 use Rattle.tables.specs.Cells.{Tables, valuesIn, firstIn, stampIn, rowsIn, slotsIn, changesIn, slotValue, slotStamp, slotLink, slotWords}
-use Rattle.tables.specs.Cells.{headOf, rowsAt}
+use Rattle.tables.specs.Cells.{headOf, rowsInLog}
 use Rattle.tables.specs.Sessions.{freed, sessionAt}
 use Rattle.tables.specs.Meaning.{versionAt, chainFrom, chainAt, sessionOf, meaning}
 use Rattle.tables.specs.Room.{roomy}
@@ -43,9 +43,9 @@ use Rattle.tables.proofs.Sessions.{sessions-made, session-made, freed-zero}
 use Rattle.tables.proofs.Chains.{chain-end}
 use Rattle.tables.proofs.Stores.{freed-means}
 use Rattle.lent.specs.Places.{length-freed-all, freed-all-at}
-use Rattle.calls.specs.Said.{numbers}
-use Rattle.calls.specs.Outcome.{Outcome, outcome, refusalOfCreate, unless}
-use Rattle.calls.specs.Calls.{below, createdTables, columnOf, createOf}
+use Rattle.outcomes.specs.Said.{numbers}
+use Rattle.outcomes.specs.Outcome.{Outcome, outcome, refusalOfCreate, unless}
+use Rattle.outcomes.specs.Calls.{below, createdTables, columnOf, createOf}
 use Rattle.follow.specs.Good.{Good}
 use Rattle.follow.specs.Follows.{Follows}
 use Rattle.follow.specs.Heard.{heard}
@@ -125,7 +125,7 @@ module _ (t : Tables) (C : ℕ) (col : Column) (f : Fresh t C col) where
             (λ i l. rw (f .sessions-free i l) (session-made (valuesIn c) (firstIn c) (stampIn c) (t .log) freed (inl freed-zero)));
       }
     where
-      clear : (i : ℕ) → i < C → tailClear (slotWords (t .words) i) (rowsAt (firstIn (t .clock)) (t .log) (slotStamp (t .slots) i)) ≡ true
+      clear : (i : ℕ) → i < C → tailClear (slotWords (t .words) i) (rowsInLog (firstIn (t .clock)) (t .log) (slotStamp (t .slots) i)) ≡ true
       clear i l =
           rw (f .stamp-zero i l)
           (tail-of-bits (slotWords (t .words) i) (firstIn (t .clock)) (λ r h. f .vector-is i l r ∙ past-absent col i r (omega (arith, f .first-are))))

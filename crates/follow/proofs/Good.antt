@@ -31,9 +31,9 @@ use Rattle.tables.proofs.Sessions.{ZeroFacts, OpenFacts, each-session, sessions
 use Rattle.tables.proofs.Means.{values-means, open-means, live-means}
 use Rattle.tables.proofs.Stores.{session-put}
 use Rattle.tables.proofs.Undamaged.{means-undamaged}
-use Rattle.calls.specs.Calls.{own, reseated}
-use Rattle.calls.specs.Outcome.{Outcome, refusalAt, unless}
-use Rattle.calls.proofs.Entered.{seat-means, seat-there}
+use Rattle.outcomes.specs.Calls.{own, reseated}
+use Rattle.outcomes.specs.Outcome.{Outcome, refusalAt, unless}
+use Rattle.outcomes.proofs.Entered.{seat-means, seat-there}
 use Rattle.follow.specs.Good.{Wide, AllWide, Good}
 use Rattle.follow.specs.Heard.{heard}
 use Rattle.follow.specs.Follows.{Follows}

@@ -18,7 +18,7 @@ use Rattle.rules.proofs.Invariant.{ChangesFit, LogFits}
 use Rattle.tables.specs.Stores.{putChange, putRecord}
 use Rattle.tables.specs.Stretch.{stretch}
 use Rattle.tables.specs.Meaning.{changeAt, kindOf, recordAt}
-use Rattle.tables.specs.Cells.{valuesIn, firstIn, stampIn, rowsIn, slotsIn, changesIn, rowsAt, endAt}
+use Rattle.tables.specs.Cells.{valuesIn, firstIn, stampIn, rowsIn, slotsIn, changesIn, rowsInLog, endAt}
 use Rattle.tables.specs.Damage.{clockFits, recordsFit, changesFit, sessionFits, sessionsFit}
 use Rattle.tables.specs.declared.session.Session.{Session}
 use Rattle.tables.specs.Sessions.{sessionAt}
@@ -29,8 +29,8 @@ use Rattle.tables.proofs.Facts.{clock-facts, clock-made, RecordFacts, ChangeFac
 use Rattle.tables.proofs.Facts.{end-high, each-change, changes-made}
 use Rattle.tables.proofs.Sessions.{ZeroFacts, OpenFacts, session-facts, session-made, each-session, sessions-made}
 use Rattle.tables.proofs.Fits.{changes-fit-at}
-use Rattle.calls.specs.Stores.{putChanges}
-use Rattle.calls.proofs.StoreLaws.{changes-before}
+use Rattle.outcomes.specs.Stores.{putChanges}
+use Rattle.outcomes.proofs.StoreLaws.{changes-before}
 
 -- the changes put
 pub changes-put : (l : List ℕ) (p : ℕ) (cs : List Change) → p + length cs ≤ 2048 → 4096 ≤ length l
@@ -98,10 +98,10 @@ pub record NextRecord (c c′ log : List ℕ) (kind rows slots end : ℕ) : Type
 
 module _ {c c′ log : List ℕ} {kind rows slots end : ℕ} (k : NextRecord c c′ log kind rows slots end) where
   -- row counts and ends at the old stamps, and at the new one
-  pub rows-old : (s : ℕ) → s ≤ stampIn c → rowsAt (firstIn c′) (newLog c log kind rows end) s ≡ rowsAt (firstIn c) log s
+  pub rows-old : (s : ℕ) → s ≤ stampIn c → rowsInLog (firstIn c′) (newLog c log kind rows end) s ≡ rowsInLog (firstIn c) log s
   rows-old s h = rw (k .later .first-kept) (rows-kept log (stampIn c) kind rows end (k .stamp-low) (firstIn c) s h)
 
-  pub rows-new : rowsAt (firstIn c′) (newLog c log kind rows end) (suc (stampIn c)) ≡ rows
+  pub rows-new : rowsInLog (firstIn c′) (newLog c log kind rows end) (suc (stampIn c)) ≡ rows
   rows-new = put-rows log (stampIn c) kind rows end (k .stamp-low) (k .log-room)
 
   ends-old : (s : ℕ) → s ≤ stampIn c → endAt (newLog c log kind rows end) s ≡ endAt log s
@@ -143,13 +143,13 @@ module _ {c c′ log : List ℕ} {kind rows slots end : ℕ} (k : NextRecord c c
       records-made c′ (newLog c log kind rows end)
       (λ j l. ⊎-elim (λ (e : j ≡ stampIn c). rw e record-new) (λ (h : j < stampIn c). record-old j h) (old-or-new j l))
       (ap (endAt (newLog c log kind rows end)) stamp-is ∙ ends-new ∙ sym (k .later .changes-now))
-      (ap (rowsAt (firstIn c′) (newLog c log kind rows end)) stamp-is ∙ rows-new ∙ sym (k .later .rows-now))
+      (ap (rowsInLog (firstIn c′) (newLog c log kind rows end)) stamp-is ∙ rows-new ∙ sym (k .later .rows-now))
 
   -- ---- changes: the old ones as they were, and those of the new record
 
   change-old : (changes changes′ : List ℕ) → changesFit c log changes ≡ true → ((p : ℕ) → p < changesIn c → changeAt changes′ p ≡ changeAt changes p)
       → (j p : ℕ) → j < stampIn c → endAt (newLog c log kind rows end) j ≤ p → p < endAt (newLog c log kind rows end) (suc j)
-      → ChangeFacts changes′ (valuesIn c′) (rowsAt (firstIn c′) (newLog c log kind rows end) (suc j)) p
+      → ChangeFacts changes′ (valuesIn c′) (rowsInLog (firstIn c′) (newLog c log kind rows end) (suc j)) p
   change-old changes changes′ e same j p h a b =
       let b′ : p < endAt log (suc j) = omega (arith, ends-old (suc j) h) in
       let f = each-change c log changes e j p h (omega (arith, ends-old j (omega arith))) b′ in
@@ -161,7 +161,7 @@ module _ {c c′ log : List ℕ} {kind rows slots end : ℕ} (k : NextRecord c c
 
   change-new : (changes′ : List ℕ) → ChangesFit (valuesIn c) rows (stretch (changeAt changes′) (changesIn c) end)
       → (p : ℕ) → endAt (newLog c log kind rows end) (stampIn c) ≤ p → p < endAt (newLog c log kind rows end) (suc (stampIn c))
-      → ChangeFacts changes′ (valuesIn c′) (rowsAt (firstIn c′) (newLog c log kind rows end) (suc (stampIn c))) p
+      → ChangeFacts changes′ (valuesIn c′) (rowsInLog (firstIn c′) (newLog c log kind rows end) (suc (stampIn c))) p
   change-new changes′ f p a b =
       rw (k .later .values-kept, rows-new)
       (changes-fit-at changes′ (valuesIn c) rows (changesIn c) end f p
@@ -173,7 +173,7 @@ module _ {c c′ log : List ℕ} {kind rows slots end : ℕ} (k : NextRecord c c
       changes-made c′ (newLog c log kind rows end) changes′ (λ j p l. go j p (old-or-new j l))
     where
       go : (j p : ℕ) → (j ≡ stampIn c) ⊎ (j < stampIn c) → endAt (newLog c log kind rows end) j ≤ p → p < endAt (newLog c log kind rows end) (suc j)
-          → ChangeFacts changes′ (valuesIn c′) (rowsAt (firstIn c′) (newLog c log kind rows end) (suc j)) p
+          → ChangeFacts changes′ (valuesIn c′) (rowsInLog (firstIn c′) (newLog c log kind rows end) (suc j)) p
       go j p (inl q) = rw q (change-new changes′ f p)
       go j p (inr h) = change-old changes changes′ e same j p h
 

@@ -19,7 +19,7 @@ use Rattle.bits.specs.Words.{bitAt}
 use Rattle.rules.specs.State.{Change, Version, Chain}
 use Rattle.rules.proofs.Invariant.{ChangesFit}
 use Rattle.tables.specs.Cells.{Tables, tables, changesIn, valuesIn, firstIn, stampIn, slotsIn, slotValue, slotStamp, slotLink, slotWords}
-use Rattle.tables.specs.Cells.{rowsAt, headOf}
+use Rattle.tables.specs.Cells.{rowsInLog, headOf}
 use Rattle.tables.specs.Meaning.{versionAt, chainFrom, chainAt}
 use Rattle.tables.specs.Damage.{slotsFit, headsFit, vectorsFit}
 use Rattle.tables.specs.Stores.{putSlot, putHead}
@@ -29,8 +29,8 @@ use Rattle.tables.proofs.Stores.{length-record, put-value, put-stamp, put-link,
 use Rattle.tables.proofs.Stretch.{tab-set}
 use Rattle.tables.proofs.Chains.{chain-on, chain-same}
 use Rattle.tables.proofs.Facts.{room-made, whole, clock-facts, clock-limits}
-use Rattle.calls.specs.Stores.{putChanges}
-use Rattle.calls.proofs.StoreLaws.{length-changes}
+use Rattle.outcomes.specs.Stores.{putChanges}
+use Rattle.outcomes.proofs.StoreLaws.{length-changes}
 use Rattle.follow.specs.Good.{Good}
 use Rattle.follow.proofs.Good.{good-room, good-parts}
 use Rattle.follow.proofs.NewRecord.{clock-later, records-later, grown-changes, sessions-later, newLog, NextRecord, rows-old}
@@ -91,13 +91,13 @@ module _ {c c′ log slots words slots′ words′ : List ℕ} {kind rows used e
   heads-later heads′ h = heads-made c′ slots′ heads′ (λ v l. rw (k .later .slots-now) (h v (omega (arith, k .later .values-kept))))
 
   pub vectors-later : vectorsFit c log slots words ≡ true
-      → ((i : ℕ) → slotsIn c ≤ i → i < used → tailClear (slotWords words′ i) (rowsAt (firstIn c′) (newLog c log kind rows end) (slotStamp slots′ i)) ≡ true)
+      → ((i : ℕ) → slotsIn c ≤ i → i < used → tailClear (slotWords words′ i) (rowsInLog (firstIn c′) (newLog c log kind rows end) (slotStamp slots′ i)) ≡ true)
       → vectorsFit c′ (newLog c log kind rows end) slots′ words′ ≡ true
   vectors-later f new =
       vectors-made c′ (newLog c log kind rows end) slots′ words′ (λ i l. go i (omega (arith, k .later .slots-now)) (lt-cases i (slotsIn c)))
     where
       go : (i : ℕ) → i < used → (i < slotsIn c) ⊎ (slotsIn c ≤ i)
-          → tailClear (slotWords words′ i) (rowsAt (firstIn c′) (newLog c log kind rows end) (slotStamp slots′ i)) ≡ true
+          → tailClear (slotWords words′ i) (rowsInLog (firstIn c′) (newLog c log kind rows end) (slotStamp slots′ i)) ≡ true
       go i l (inl o) =
           rw (
             same .words-same i o,
@@ -269,7 +269,7 @@ pub record NewSlots (t : Tables) (c′ log′ slots′ words′ heads′ : List 
   pub slots-new : (i : ℕ) → slotsIn (t .clock) ≤ i → i < used → LaterSlot (valuesIn (t .clock)) (stampIn (t .clock) + 1) slots′ i
   pub heads-new : (v : ℕ) → v < valuesIn (t .clock) → HeadFacts used slots′ heads′ v
   pub vectors-new : (i : ℕ) → slotsIn (t .clock) ≤ i → i < used
-      → tailClear (slotWords words′ i) (rowsAt (firstIn c′) log′ (slotStamp slots′ i)) ≡ true
+      → tailClear (slotWords words′ i) (rowsInLog (firstIn c′) log′ (slotStamp slots′ i)) ≡ true
   pub slots-long : length slots′ ≡ length (t .slots)
   pub words-long : length words′ ≡ length (t .words)
   pub heads-long : length heads′ ≡ length (t .heads)

@@ -35,10 +35,10 @@ use Rattle.tables.proofs.Slots.{length-slotWords}
 use Rattle.tables.proofs.Tests.{and-both}
 use Rattle.history.specs.Version.{slotSeen}
 use Rattle.history.proofs.Meets.{seen-used, vector-meets}
-use Rattle.calls.specs.Said.{words, value}
-use Rattle.calls.specs.Query.{rowsSeen, flipsSeen, asked, queryOf, pickedFrom}
-use Rattle.calls.specs.Outcome.{outcome}
-use Rattle.calls.specs.Calls.{readOf}
+use Rattle.outcomes.specs.Said.{words, value}
+use Rattle.outcomes.specs.Query.{rowsSeen, flipsSeen, asked, queryOf, pickedFrom}
+use Rattle.outcomes.specs.Outcome.{outcome}
+use Rattle.outcomes.specs.Calls.{readOf}
 use Rattle.follow.specs.Good.{Good}
 use Rattle.follow.specs.Heard.{heard}
 use Rattle.follow.specs.Follows.{Follows}

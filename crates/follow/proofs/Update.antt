@@ -33,7 +33,7 @@ use Rattle.tables.proofs.Sessions.{EntryCases, OpenFacts, open-rows-few}
 use Rattle.tables.proofs.Fits.{entry-add, entry-alter, target-some, target-none}
 use Rattle.tables.proofs.Means.{length-entries, open-means}
 use Rattle.tables.proofs.Facts.{clock-limits}
-use Rattle.calls.specs.Calls.{orPlace, spotOf, listedAt, own, relisted, updateOf, deleteOf, insertOf}
+use Rattle.outcomes.specs.Calls.{orPlace, spotOf, listedAt, own, putBack, updateOf, deleteOf, insertOf}
 use Rattle.follow.specs.Good.{Wide, Good}
 use Rattle.follow.specs.Follows.{Follows}
 use Rattle.follow.proofs.Good.{good-parts, good-seated, Meets, meets-by, follows, Open, seated-means, value-low, open-seat}
@@ -233,11 +233,11 @@ module _ (t : Tables) (g : Good t) (n : ℕ) (o : Open t n) where
   -- a call that lists es, where the cells of the changed list mean es and fit
   pub relisted-meets : (p at to : ℕ) (c : Call) (es : List Entry) → effect (meaning t) c ≡ rules.relisted (meaning t) n (session (meaning t) n) es
       → entries (listedAt x p at to) ≡ es → OpenFacts (valuesIn (t .clock)) (firstIn (t .clock)) (stampIn (t .clock)) (t .log) (listedAt x p at to)
-      → Meets t c (relisted t n (listedAt x p at to))
+      → Meets t c (putBack t n (listedAt x p at to))
   unfolding withEntry
   relisted-meets p at to c es e q f =
       let y = listedAt x p at to in
-      meets-by t c (relisted t n y) (relisted t n y) (seated (meaning t) n (opened (x .start .0) (x .rows .0) es)) (ok (length es ∷ [])) refl
+      meets-by t c (putBack t n y) (putBack t n y) (seated (meaning t) n (opened (x .start .0) (x .rows .0) es)) (ok (length es ∷ [])) refl
       (rw (o .means) at e) (seated-means t n (o .place) g y ∙ ap (seated (meaning t) n) (open-means y (f .live-one) ∙ ap (opened (x .start .0) (x .rows .0)) q))
       (ap (λ (k : ℕ). ok (k ∷ [])) (sym (length-entries y) ∙ ap length q)) (good-seated t n y g (listed-wide x p at to (o .wide)) (inr f))
 
@@ -255,7 +255,7 @@ module _ (t : Tables) (g : Good t) (n : ℕ) (o : Open t n) where
 
     pub change-meets : (to : ℕ) → (to < valuesIn (t .clock)) ⊎ (to ≡ 255) → (c : Call) (target : Option ℕ) → targetOf to ≡ target
         → effect (meaning t) c ≡ rules.relisted (meaning t) n (session (meaning t) n) (put (listOf (session (meaning t) n)) r target)
-        → Meets t c (relisted t n (listedAt x (spotOf x r) r to))
+        → Meets t c (putBack t n (listedAt x (spotOf x r) r to))
     change-meets to fits c target z e =
         relisted-meets (spotOf x r) r to c (put (listOf (session (meaning t) n)) r target) e
         (rw (o .means) (entries-put x r no-insert to (o .wide) low ∙ ap (put (entries x) r) z))
@@ -265,7 +265,7 @@ module _ (t : Tables) (g : Good t) (n : ℕ) (o : Open t n) where
 pub update-follows : (t : Tables) → Good t → (n r v : ℕ) → Follows t (update n r v) (updateOf t n r v)
 unfolding updateOf tests effect
 update-follows t g n r v =
-    follows t g (update n r v) [] (relisted t n (listedAt (own t n) (spotOf (own t n) r) r v))
+    follows t g (update n r v) [] (putBack t n (listedAt (own t n) (spotOf (own t n) r) r v))
     (λ a. let f = a .fail in
     let l = value-low t v (f .1 .1 .0) in
     change-meets t g n (open-seat t n g (f .0) (f .1 .0)) r (f .1 .1 .1 .0) (f .1 .1 .1 .1 .1 .0) v (inl l) (update n r v) (some v)
@@ -274,13 +274,13 @@ update-follows t g n r v =
 pub delete-follows : (t : Tables) → Good t → (n r : ℕ) → Follows t (delete n r) (deleteOf t n r)
 unfolding deleteOf tests effect
 delete-follows t g n r =
-    follows t g (delete n r) [] (relisted t n (listedAt (own t n) (spotOf (own t n) r) r 255))
+    follows t g (delete n r) [] (putBack t n (listedAt (own t n) (spotOf (own t n) r) r 255))
     (λ a. let f = a .fail in
     change-meets t g n (open-seat t n g (f .0) (f .1 .0)) r (f .1 .1 .0) (f .1 .1 .1 .1 .0) 255 (inr refl) (delete n r) none (target-none 255 refl) refl)
 
 module _ (t : Tables) (g : Good t) (n v : ℕ) where
   accepted : Open t n → v < valuesIn (t .clock) → isFull (listOf (session (meaning t) n)) ≡ false
-      → Meets t (insert n v) (relisted t n (listedAt (own t n) (own t n .count) 65535 v))
+      → Meets t (insert n v) (putBack t n (listedAt (own t n) (own t n .count) 65535 v))
   unfolding effect maxEntries
   accepted o l full =
       let x = own t n in
@@ -295,5 +295,5 @@ module _ (t : Tables) (g : Good t) (n v : ℕ) where
   pub insert-follows : Follows t (insert n v) (insertOf t n v)
   unfolding insertOf tests
   insert-follows =
-      follows t g (insert n v) [] (relisted t n (listedAt (own t n) (own t n .count) 65535 v))
+      follows t g (insert n v) [] (putBack t n (listedAt (own t n) (own t n .count) 65535 v))
       (λ a. let f = a .fail in accepted (open-seat t n g (f .0) (f .1 .0)) (value-low t v (f .1 .1 .0)) (f .1 .1 .1 .0))

@@ -5,7 +5,7 @@ use Rattle.rules.specs.Calls.{Call}
 use Rattle.rules.specs.Step.{step}
 use Rattle.tables.specs.Cells.{Tables}
 use Rattle.tables.specs.Meaning.{meaning}
-use Rattle.calls.specs.Outcome.{Outcome}
+use Rattle.outcomes.specs.Outcome.{Outcome}
 use Rattle.follow.specs.Good.{Good}
 use Rattle.follow.specs.Heard.{heard}
 

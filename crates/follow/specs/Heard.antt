@@ -7,9 +7,9 @@ use lib.ListN.{getD}
 use Rattle.bits.specs.Rows.{rowsOf}
 use Rattle.rules.specs.Calls.{Answer, refused, ok, listed}
 use Rattle.rules.specs.Calls as rules
-use Rattle.calls.specs.Said.{Said, no, numbers, value, words}
-use Rattle.calls.specs.Outcome.{Outcome}
-use Rattle.calls.specs.Query.{pickedFrom}
+use Rattle.outcomes.specs.Said.{Said, no, numbers, value, words}
+use Rattle.outcomes.specs.Outcome.{Outcome}
+use Rattle.outcomes.specs.Query.{pickedFrom}
 
 -- an answer, where the words at a place show these rows
 abbrev pub heardWith : (Option ℕ → List ℕ) → Said → Answer

@@ -7,17 +7,17 @@ use Rattle.lent.proofs.Data.{Data, flag, struct, enum}
 use Rattle.lent.proofs.Types.{stamp, row, session}
 use Rattle.lent.proofs.Slices.{Knowns}
 use Rattle.lent.proofs.Passes.{values}
-use Rattle.calls.specs.declared.answers.Begun.{Begun}
-use Rattle.calls.specs.declared.answers.Relisted.{Relisted}
-use Rattle.calls.specs.declared.answers.Freed.{Freed}
-use Rattle.calls.proofs.answers.Answer as A
-use Rattle.calls.proofs.answers.Answer.Laws as AL
-use Rattle.calls.proofs.answers.Begun as B
-use Rattle.calls.proofs.answers.Begun.Laws as BL
-use Rattle.calls.proofs.answers.Relisted as R
-use Rattle.calls.proofs.answers.Relisted.Laws as RL
-use Rattle.calls.proofs.answers.Freed as F
-use Rattle.calls.proofs.answers.Freed.Laws as FL
+use Rattle.outcomes.specs.declared.answers.Begun.{Begun}
+use Rattle.outcomes.specs.declared.answers.Relisted.{Relisted}
+use Rattle.outcomes.specs.declared.answers.Freed.{Freed}
+use Rattle.outcomes.proofs.answers.Answer as A
+use Rattle.outcomes.proofs.answers.Answer.Laws as AL
+use Rattle.outcomes.proofs.answers.Begun as B
+use Rattle.outcomes.proofs.answers.Begun.Laws as BL
+use Rattle.outcomes.proofs.answers.Relisted as R
+use Rattle.outcomes.proofs.answers.Relisted.Laws as RL
+use Rattle.outcomes.proofs.answers.Freed as F
+use Rattle.outcomes.proofs.answers.Freed.Laws as FL
 
 abbrev pub the-answer : Data
 the-answer = enum A.the-type AL.the-laws tt AL.the-plain AL.the-copy

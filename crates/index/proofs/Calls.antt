@@ -27,13 +27,13 @@ use Rattle.lent.proofs.Passes.{view, after-all}
 pub use Rattle.lent.proofs.Through.{front, core, and-values, Ending}
 use Rattle.lent.specs.Places.{openedAt, listedBack, freedAt, allFreed}
 use Rattle.lent.specs.Seats.{seatOf}
-pub use Rattle.calls.specs.Said.{Said, said}
-pub use Rattle.calls.specs.Outcome.{Outcome, outcome}
-use Rattle.calls.specs.Calls.{createOf, beginOf, readOf, updateOf, deleteOf, insertOf, commitOf, tidyOf, abortOf}
-use Rattle.calls.specs.Query.{queryOf}
-use Rattle.calls.specs.declared.answers.Answer.{Answer}
-use Rattle.calls.specs.Seats.{Serves, Creates}
-pub use Rattle.calls.specs.Seats.{opening, relisting, freeing, untouched}
+pub use Rattle.outcomes.specs.Said.{Said, said}
+pub use Rattle.outcomes.specs.Outcome.{Outcome, outcome}
+use Rattle.outcomes.specs.Calls.{createOf, beginOf, readOf, updateOf, deleteOf, insertOf, commitOf, tidyOf, abortOf}
+use Rattle.outcomes.specs.Query.{queryOf}
+use Rattle.outcomes.specs.declared.answers.Answer.{Answer}
+use Rattle.outcomes.specs.Seats.{Serves, Creates}
+pub use Rattle.outcomes.specs.Seats.{opening, relisting, freeing, untouched}
 pub use Rattle.index.proofs.Answers.{the-answer, the-begun, the-relisted, the-freed}
 use Rattle.index.proofs.Answers.{begun-answer, begun-parts, relisted-answer, relisted-parts, freed-answer, freed-parts}
 -- ---- what the proof of each call takes from elsewhere

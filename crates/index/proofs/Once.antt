@@ -12,11 +12,11 @@ use Rattle.tables.specs.declared.refusal.Refusal.the-variants.{RowAbsent, ListF
 use Rattle.tables.specs.declared.refusal.Refusal.the-variants.{RowsFull, RecordsFull, ChangesFull, SlotsFull, Unreadable}
 use Rattle.tables.specs.Refusals.{numberOf}
 use Rattle.history.specs.declared.read.Standing.the-variants.{Holds, Absent}
-use Rattle.calls.specs.declared.answers.Answer.{Answer}
-use Rattle.calls.specs.declared.answers.Answer.the-variants.{No, Count, At, Read, Listed}
-use Rattle.calls.specs.declared.answers.Place.the-variants.{Slot, Scratch}
-use Rattle.calls.specs.Said.{Said, no, numbers, value, words, said}
-use Rattle.calls.specs.Outcome.{Outcome}
+use Rattle.outcomes.specs.declared.answers.Answer.{Answer}
+use Rattle.outcomes.specs.declared.answers.Answer.the-variants.{No, Count, At, Read, Listed}
+use Rattle.outcomes.specs.declared.answers.Place.the-variants.{Slot, Scratch}
+use Rattle.outcomes.specs.Said.{Said, no, numbers, value, words, said}
+use Rattle.outcomes.specs.Outcome.{Outcome}
 use Rattle.index.specs.Once.{Once, NoSecond}
 
 -- ---- the reason that a number is given for

@@ -5,12 +5,12 @@ use mathlib.Core.Path.{_≡_}
 use mathlib.Core.List.{List}
 use Prim.Native.Nat.{ℕ}
 use Rattle.tables.specs.Cells.{Tables}
-use Rattle.calls.specs.declared.answers.Answer.{Answer}
-use Rattle.calls.specs.declared.answers.Place.{Place}
-use Rattle.calls.specs.Said.{said, placeOf}
-use Rattle.calls.specs.Outcome.{Outcome, outcome}
-use Rattle.calls.specs.Calls.{createOf, beginOf, readOf, updateOf, deleteOf, insertOf, commitOf, tidyOf, abortOf}
-use Rattle.calls.specs.Query.{queryOf, pickedFrom}
+use Rattle.outcomes.specs.declared.answers.Answer.{Answer}
+use Rattle.outcomes.specs.declared.answers.Place.{Place}
+use Rattle.outcomes.specs.Said.{said, placeOf}
+use Rattle.outcomes.specs.Outcome.{Outcome, outcome}
+use Rattle.outcomes.specs.Calls.{createOf, beginOf, readOf, updateOf, deleteOf, insertOf, commitOf, tidyOf, abortOf}
+use Rattle.outcomes.specs.Query.{queryOf, pickedFrom}
 
 -- of the tables t: two outcomes, each the tables, the further lent buffers and the answer afterwards, that both meet the contract
 -- are the same

@@ -1,15 +1,15 @@
 // The cores with every table lent `&mut`, as the outer calls lend them, and the session that a call sees in the place of the session
 // table. Here a caller's numbers become rows and values.
-use calls::Answer;
-use calls::Begun;
-use calls::Freed;
-use calls::Relisted;
 use lent::Seat;
+use outcomes::Answer;
+use outcomes::Begun;
+use outcomes::Freed;
+use outcomes::Relisted;
 ghost use mathlib.Core.List.{[], _∷_};
 ghost use Rattle.tables.specs.Cells.{tables};
-ghost use Rattle.calls.specs.Seats.{Serves, Creates, opening, relisting, freeing, untouched};
-ghost use Rattle.calls.specs.Calls.{createOf, beginOf, readOf, updateOf, deleteOf, insertOf, commitOf, tidyOf, abortOf};
-ghost use Rattle.calls.specs.Query.{queryOf};
+ghost use Rattle.outcomes.specs.Seats.{Serves, Creates, opening, relisting, freeing, untouched};
+ghost use Rattle.outcomes.specs.Calls.{createOf, beginOf, readOf, updateOf, deleteOf, insertOf, commitOf, tidyOf, abortOf};
+ghost use Rattle.outcomes.specs.Query.{queryOf};
 
 // Create, of a session table with so many places.
 pub fn create_at(
@@ -49,7 +49,7 @@ pub fn begin_at(
         (tables (now (clock .exit)) (now (slots .exit)) (now (words .exit)) (now (heads .exit))
         (now (log .exit)) (now (changes .exit))) [] seat n (opening r n) (r .answer) (λ t. beginOf t n) ⌝ }
 {
-    reading::begin_in(clock, slots, words, heads, log, changes, seat, n)
+    listing::begin_in(clock, slots, words, heads, log, changes, seat, n)
 }
 
 // Query.
@@ -73,7 +73,7 @@ pub fn query_at(
         (now (log .exit)) (now (changes .exit))) (now (scratch .exit) ∷ []) seat n untouched r
         (λ t. queryOf t (now (scratch .entry)) n v threshold) ⌝ }
 {
-    let value = calls::value_of(v);
+    let value = outcomes::value_of(v);
     reading::query_in(
         clock,
         slots,
@@ -107,7 +107,7 @@ pub fn read_at(
         (tables (now (clock .exit)) (now (slots .exit)) (now (words .exit)) (now (heads .exit))
         (now (log .exit)) (now (changes .exit))) [] seat n untouched r (λ t. readOf t n row) ⌝ }
 {
-    let at = calls::row_of(row);
+    let at = outcomes::row_of(row);
     reading::read_in(clock, slots, words, heads, log, changes, seat, n, at)
 }
 
@@ -130,8 +130,8 @@ pub fn update_at(
         (tables (now (clock .exit)) (now (slots .exit)) (now (words .exit)) (now (heads .exit))
         (now (log .exit)) (now (changes .exit))) [] seat n (relisting r n) (r .answer) (λ t. updateOf t n row v) ⌝ }
 {
-    let at = calls::row_of(row);
-    let value = calls::value_of(v);
+    let at = outcomes::row_of(row);
+    let value = outcomes::value_of(v);
     listing::update_in(clock, slots, words, heads, log, changes, seat, n, at, value)
 }
 
@@ -153,7 +153,7 @@ pub fn delete_at(
         (tables (now (clock .exit)) (now (slots .exit)) (now (words .exit)) (now (heads .exit))
         (now (log .exit)) (now (changes .exit))) [] seat n (relisting r n) (r .answer) (λ t. deleteOf t n row) ⌝ }
 {
-    let at = calls::row_of(row);
+    let at = outcomes::row_of(row);
     listing::delete_in(clock, slots, words, heads, log, changes, seat, n, at)
 }
 
@@ -175,7 +175,7 @@ pub fn insert_at(
         (tables (now (clock .exit)) (now (slots .exit)) (now (words .exit)) (now (heads .exit))
         (now (log .exit)) (now (changes .exit))) [] seat n (relisting r n) (r .answer) (λ t. insertOf t n v) ⌝ }
 {
-    let value = calls::value_of(v);
+    let value = outcomes::value_of(v);
     listing::insert_in(clock, slots, words, heads, log, changes, seat, n, value)
 }
 
@@ -217,7 +217,7 @@ pub fn tidy_at(
         (tables (now (clock .exit)) (now (slots .exit)) (now (words .exit)) (now (heads .exit))
         (now (log .exit)) (now (changes .exit))) [] seat n untouched r (λ t. tidyOf t n v) ⌝ }
 {
-    let value = calls::value_of(v);
+    let value = outcomes::value_of(v);
     tidying::tidy_in(clock, slots, words, heads, log, changes, seat, n, value)
 }
 
@@ -238,5 +238,5 @@ pub fn abort_at(
         (tables (now (clock .exit)) (now (slots .exit)) (now (words .exit)) (now (heads .exit))
         (now (log .exit)) (now (changes .exit))) [] seat n (freeing r n) (r .answer) (λ t. abortOf t n) ⌝ }
 {
-    reading::abort_in(clock, slots, words, heads, log, changes, seat, n)
+    listing::abort_in(clock, slots, words, heads, log, changes, seat, n)
 }

@@ -10,15 +10,15 @@ use crate::cores::query_at;
 use crate::cores::read_at;
 use crate::cores::tidy_at;
 use crate::cores::update_at;
-use calls::Answer;
+use outcomes::Answer;
 use tables::Session;
 ghost use mathlib.Core.Path.{_≡_};
 ghost use mathlib.Core.List.{[], _∷_};
 ghost use Rattle.tables.specs.Cells.{tables};
-ghost use Rattle.calls.specs.Said.{said};
-ghost use Rattle.calls.specs.Outcome.{outcome};
-ghost use Rattle.calls.specs.Calls.{createOf, beginOf, readOf, updateOf, deleteOf, insertOf, commitOf, tidyOf, abortOf};
-ghost use Rattle.calls.specs.Query.{queryOf};
+ghost use Rattle.outcomes.specs.Said.{said};
+ghost use Rattle.outcomes.specs.Outcome.{outcome};
+ghost use Rattle.outcomes.specs.Calls.{createOf, beginOf, readOf, updateOf, deleteOf, insertOf, commitOf, tidyOf, abortOf};
+ghost use Rattle.outcomes.specs.Query.{queryOf};
 
 // Create: the row count.
 pub fn create(

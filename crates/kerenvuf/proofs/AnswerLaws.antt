@@ -8,12 +8,12 @@ use Rattle.tables.specs.declared.refusal.Refusal.{Refusal}
 use Rattle.tables.specs.Refusals.{numberOf}
 use Rattle.history.specs.declared.read.Standing.{Standing}
 use Rattle.history.specs.Read.{standingOf}
-use Rattle.calls.specs.declared.answers.Place.{Place}
-use Rattle.calls.specs.declared.answers.Place.the-variants.{Slot}
-use Rattle.calls.specs.declared.answers.Answer.{Answer}
-use Rattle.calls.specs.declared.answers.Answer.the-variants.{No, Listed}
-use Rattle.calls.specs.Said.{said, placeOf}
-use Rattle.kerenvuf.specs.declared.answers.KvAnswer.{KvAnswer}
+use Rattle.outcomes.specs.declared.answers.Place.{Place}
+use Rattle.outcomes.specs.declared.answers.Place.the-variants.{Slot}
+use Rattle.outcomes.specs.declared.answers.Answer.{Answer}
+use Rattle.outcomes.specs.declared.answers.Answer.the-variants.{No, Listed}
+use Rattle.outcomes.specs.Said.{said, placeOf}
+use Rattle.kerenvuf.specs.declared.in_numbers.KvAnswer.{KvAnswer}
 use Rattle.kerenvuf.specs.Heard.{kv, bitOf, placeNumber, readNumbers, encoded}
 
 -- where a query's words stand

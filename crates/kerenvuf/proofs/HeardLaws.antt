@@ -19,11 +19,11 @@ use Rattle.tables.proofs.Facts.{parts, clock-limits}
 use Rattle.tables.proofs.Means.{values-means}
 use Rattle.history.specs.Version.{slotSeen}
 use Rattle.history.proofs.Meets.{seen-used}
-use Rattle.calls.proofs.Serving.{accepted}
-use Rattle.calls.specs.Said.{no, numbers, value, words}
-use Rattle.calls.specs.Outcome.{Outcome, unless, refusalAt, refusalOfCreate}
-use Rattle.calls.specs.Calls.{own, beginning, columnOf, createOf, beginOf, readOf, updateOf, deleteOf, insertOf, commitOf, tidyOf, abortOf}
-use Rattle.calls.specs.Query.{flipsSeen, asked, queryOf}
+use Rattle.outcomes.proofs.Serving.{accepted}
+use Rattle.outcomes.specs.Said.{no, numbers, value, words}
+use Rattle.outcomes.specs.Outcome.{Outcome, unless, refusalAt, refusalOfCreate}
+use Rattle.outcomes.specs.Calls.{own, beginning, columnOf, createOf, beginOf, readOf, updateOf, deleteOf, insertOf, commitOf, tidyOf, abortOf}
+use Rattle.outcomes.specs.Query.{flipsSeen, asked, queryOf}
 use Rattle.kerenvuf.specs.Heard.{placeNumber, decoded, Kept, AllHeard}
 use Rattle.kerenvuf.specs.Picked.{placeNamed}
 

@@ -11,7 +11,7 @@ use lib.ListN.{length, take, drop}
 use lib.Seq.{length-take-le}
 use Rattle.bits.specs.Tab.{over}
 use Rattle.tables.proofs.Tests.{and-both}
-use Rattle.calls.specs.Query.{pickedFrom}
+use Rattle.outcomes.specs.Query.{pickedFrom}
 use Rattle.kerenvuf.specs.Picked.{placeNamed, Copied, copied, copiedTo, pickedTo}
 
 -- the place that a number names

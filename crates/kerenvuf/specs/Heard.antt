@@ -7,11 +7,11 @@ use mathlib.Core.List.{List, [], _∷_}
 use Prim.Native.Nat.{ℕ, _+_}
 use lib.Dec.{eqb, ltb}
 use Rattle.tables.specs.Cells.{Tables}
-use Rattle.calls.specs.Said.{Said, no, numbers, value, words}
-use Rattle.calls.specs.Outcome.{Outcome}
-use Rattle.calls.specs.Query.{queryOf}
-use Rattle.calls.specs.Calls.{createOf, beginOf, readOf, updateOf, deleteOf, insertOf, commitOf, tidyOf, abortOf}
-use Rattle.kerenvuf.specs.declared.answers.KvAnswer.{KvAnswer}
+use Rattle.outcomes.specs.Said.{Said, no, numbers, value, words}
+use Rattle.outcomes.specs.Outcome.{Outcome}
+use Rattle.outcomes.specs.Query.{queryOf}
+use Rattle.outcomes.specs.Calls.{createOf, beginOf, readOf, updateOf, deleteOf, insertOf, commitOf, tidyOf, abortOf}
+use Rattle.kerenvuf.specs.declared.in_numbers.KvAnswer.{KvAnswer}
 use Rattle.kerenvuf.specs.Picked.{placeNamed}
 
 abbrev pub kv : ℕ → ℕ → ℕ → ℕ → ℕ → KvAnswer
@@ -59,8 +59,8 @@ abbrev pub seen : Tables → List (List ℕ) → KvAnswer → Seen
 seen t bs a = record { after = t; buffers = bs; answer = a }
 
 -- what it sees of what a call comes to
-abbrev pub told : Outcome → Seen
-told o = seen (o .after) (o .buffers) (encoded (o .answer))
+abbrev pub inNumbers : Outcome → Seen
+inNumbers o = seen (o .after) (o .buffers) (encoded (o .answer))
 
 -- nothing is lost in the numbers: of what a call says they say the same
 abbrev pub Kept : Said → Type 0

@@ -7,7 +7,7 @@ use Prim.Native.Nat.{ℕ, _-_}
 use lib.Dec.{eqb, leb}
 use lib.ListN.{length}
 use Rattle.bits.specs.Tab.{over}
-use Rattle.calls.specs.Query.{pickedFrom}
+use Rattle.outcomes.specs.Query.{pickedFrom}
 
 -- the place that a number names: 0 the scratch, k + 1 slot k
 unfoldable pub placeNamed : ℕ → Option ℕ

@@ -1,14 +1,14 @@
 // The ten calls as C calls them: each is the call of the index, and its answer in numbers. What C sees of a call, every lent cell and
 // every number of the answer, is what the call's definition says. Assumes nothing.
-use crate::answers::KvAnswer;
-use crate::answers::numbers;
+use crate::in_numbers::KvAnswer;
+use crate::in_numbers::numbers;
 use tables::Session;
 ghost use mathlib.Core.Path.{_≡_};
 ghost use mathlib.Core.List.{[], _∷_};
 ghost use Rattle.tables.specs.Cells.{tables};
-ghost use Rattle.calls.specs.Calls.{createOf, beginOf, readOf, updateOf, deleteOf, insertOf, commitOf, tidyOf, abortOf};
-ghost use Rattle.calls.specs.Query.{queryOf};
-ghost use Rattle.kerenvuf.specs.Heard.{seen, told};
+ghost use Rattle.outcomes.specs.Calls.{createOf, beginOf, readOf, updateOf, deleteOf, insertOf, commitOf, tidyOf, abortOf};
+ghost use Rattle.outcomes.specs.Query.{queryOf};
+ghost use Rattle.kerenvuf.specs.Heard.{seen, inNumbers};
 
 // Create: the row count.
 #[no_mangle]
@@ -25,7 +25,7 @@ pub extern "C" fn kv_create(
 ) -> KvAnswer
     ensures { λ r. ⌜ seen
         (tables (now (clock .exit)) (now (slots .exit)) (now (words .exit)) (now (heads .exit))
-        (now (log .exit)) (now (changes .exit)) (now (sessions .exit))) [] r ≡ told (createOf
+        (now (log .exit)) (now (changes .exit)) (now (sessions .exit))) [] r ≡ inNumbers (createOf
         (tables (now (clock .entry)) (now (slots .entry)) (now (words .entry)) (now (heads .entry))
         (now (log .entry)) (now (changes .entry)) (now (sessions .entry))) c (now (column .entry))) ⌝ }
 {
@@ -57,7 +57,7 @@ pub extern "C" fn kv_begin(
 ) -> KvAnswer
     ensures { λ r. ⌜ seen
         (tables (now (clock .exit)) (now (slots .exit)) (now (words .exit)) (now (heads .exit))
-        (now (log .exit)) (now (changes .exit)) (now (sessions .exit))) [] r ≡ told (beginOf
+        (now (log .exit)) (now (changes .exit)) (now (sessions .exit))) [] r ≡ inNumbers (beginOf
         (tables (now (clock .entry)) (now (slots .entry)) (now (words .entry)) (now (heads .entry))
         (now (log .entry)) (now (changes .entry)) (now (sessions .entry))) n) ⌝ }
 {
@@ -82,7 +82,7 @@ pub extern "C" fn kv_query(
 ) -> KvAnswer
     ensures { λ r. ⌜ seen
         (tables (now (clock .exit)) (now (slots .exit)) (now (words .exit)) (now (heads .exit))
-        (now (log .exit)) (now (changes .exit)) (now (sessions .exit))) (now (scratch .exit) ∷ []) r ≡ told (queryOf
+        (now (log .exit)) (now (changes .exit)) (now (sessions .exit))) (now (scratch .exit) ∷ []) r ≡ inNumbers (queryOf
         (tables (now (clock .entry)) (now (slots .entry)) (now (words .entry)) (now (heads .entry))
         (now (log .entry)) (now (changes .entry)) (now (sessions .entry))) (now (scratch .entry)) n v threshold) ⌝ }
 {
@@ -117,7 +117,7 @@ pub extern "C" fn kv_read(
 ) -> KvAnswer
     ensures { λ r. ⌜ seen
         (tables (now (clock .exit)) (now (slots .exit)) (now (words .exit)) (now (heads .exit))
-        (now (log .exit)) (now (changes .exit)) (now (sessions .exit))) [] r ≡ told (readOf
+        (now (log .exit)) (now (changes .exit)) (now (sessions .exit))) [] r ≡ inNumbers (readOf
         (tables (now (clock .entry)) (now (slots .entry)) (now (words .entry)) (now (heads .entry))
         (now (log .entry)) (now (changes .entry)) (now (sessions .entry))) n row) ⌝ }
 {
@@ -141,7 +141,7 @@ pub extern "C" fn kv_update(
 ) -> KvAnswer
     ensures { λ r. ⌜ seen
         (tables (now (clock .exit)) (now (slots .exit)) (now (words .exit)) (now (heads .exit))
-        (now (log .exit)) (now (changes .exit)) (now (sessions .exit))) [] r ≡ told (updateOf
+        (now (log .exit)) (now (changes .exit)) (now (sessions .exit))) [] r ≡ inNumbers (updateOf
         (tables (now (clock .entry)) (now (slots .entry)) (now (words .entry)) (now (heads .entry))
         (now (log .entry)) (now (changes .entry)) (now (sessions .entry))) n row v) ⌝ }
 {
@@ -175,7 +175,7 @@ pub extern "C" fn kv_delete(
 ) -> KvAnswer
     ensures { λ r. ⌜ seen
         (tables (now (clock .exit)) (now (slots .exit)) (now (words .exit)) (now (heads .exit))
-        (now (log .exit)) (now (changes .exit)) (now (sessions .exit))) [] r ≡ told (deleteOf
+        (now (log .exit)) (now (changes .exit)) (now (sessions .exit))) [] r ≡ inNumbers (deleteOf
         (tables (now (clock .entry)) (now (slots .entry)) (now (words .entry)) (now (heads .entry))
         (now (log .entry)) (now (changes .entry)) (now (sessions .entry))) n row) ⌝ }
 {
@@ -198,7 +198,7 @@ pub extern "C" fn kv_insert(
 ) -> KvAnswer
     ensures { λ r. ⌜ seen
         (tables (now (clock .exit)) (now (slots .exit)) (now (words .exit)) (now (heads .exit))
-        (now (log .exit)) (now (changes .exit)) (now (sessions .exit))) [] r ≡ told (insertOf
+        (now (log .exit)) (now (changes .exit)) (now (sessions .exit))) [] r ≡ inNumbers (insertOf
         (tables (now (clock .entry)) (now (slots .entry)) (now (words .entry)) (now (heads .entry))
         (now (log .entry)) (now (changes .entry)) (now (sessions .entry))) n v) ⌝ }
 {
@@ -220,7 +220,7 @@ pub extern "C" fn kv_commit(
 ) -> KvAnswer
     ensures { λ r. ⌜ seen
         (tables (now (clock .exit)) (now (slots .exit)) (now (words .exit)) (now (heads .exit))
-        (now (log .exit)) (now (changes .exit)) (now (sessions .exit))) [] r ≡ told (commitOf
+        (now (log .exit)) (now (changes .exit)) (now (sessions .exit))) [] r ≡ inNumbers (commitOf
         (tables (now (clock .entry)) (now (slots .entry)) (now (words .entry)) (now (heads .entry))
         (now (log .entry)) (now (changes .entry)) (now (sessions .entry))) n) ⌝ }
 {
@@ -243,7 +243,7 @@ pub extern "C" fn kv_tidy(
 ) -> KvAnswer
     ensures { λ r. ⌜ seen
         (tables (now (clock .exit)) (now (slots .exit)) (now (words .exit)) (now (heads .exit))
-        (now (log .exit)) (now (changes .exit)) (now (sessions .exit))) [] r ≡ told (tidyOf
+        (now (log .exit)) (now (changes .exit)) (now (sessions .exit))) [] r ≡ inNumbers (tidyOf
         (tables (now (clock .entry)) (now (slots .entry)) (now (words .entry)) (now (heads .entry))
         (now (log .entry)) (now (changes .entry)) (now (sessions .entry))) n v) ⌝ }
 {
@@ -265,7 +265,7 @@ pub extern "C" fn kv_abort(
 ) -> KvAnswer
     ensures { λ r. ⌜ seen
         (tables (now (clock .exit)) (now (slots .exit)) (now (words .exit)) (now (heads .exit))
-        (now (log .exit)) (now (changes .exit)) (now (sessions .exit))) [] r ≡ told (abortOf
+        (now (log .exit)) (now (changes .exit)) (now (sessions .exit))) [] r ≡ inNumbers (abortOf
         (tables (now (clock .entry)) (now (slots .entry)) (now (words .entry)) (now (heads .entry))
         (now (log .entry)) (now (changes .entry)) (now (sessions .entry))) n) ⌝ }
 {

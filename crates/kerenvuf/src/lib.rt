@@ -1,9 +1,8 @@
 // The index as C calls it: the ten calls over lent tables, and the words that a query picked. Assumes nothing.
-mod answers;
 mod exports;
+mod in_numbers;
 mod picked;
 
-pub use answers::KvAnswer;
 pub use exports::kv_abort;
 pub use exports::kv_begin;
 pub use exports::kv_commit;
@@ -14,4 +13,5 @@ pub use exports::kv_query;
 pub use exports::kv_read;
 pub use exports::kv_tidy;
 pub use exports::kv_update;
+pub use in_numbers::KvAnswer;
 pub use picked::kv_picked;

@@ -1,7 +1,7 @@
 // The words that a query picked, copied for C. Assumes nothing.
-use calls::Place;
+use outcomes::Place;
 ghost use mathlib.Core.Path.{_≡_};
-ghost use Rattle.calls.specs.Said.{placeOf};
+ghost use Rattle.outcomes.specs.Said.{placeOf};
 ghost use Rattle.kerenvuf.specs.Picked.{copied, copiedTo, placeNamed, pickedTo};
 
 // The place that a number names: 0 the scratch, else the slot of that number less 1.

@@ -22,11 +22,11 @@ use Rattle.text.specs.Show.{show}
 use Rattle.text.specs.Split.{newline}
 use Rattle.writing.specs.Wrote.{Wrote, Answered}
 use Rattle.writing.proofs.WroteLaws.{answer-line}
-use Rattle.calls.specs.declared.answers.Place.{Place}
-use Rattle.calls.specs.declared.answers.Answer as core
-use Rattle.calls.specs.declared.answers.Answer.the-variants.{No, Count, At, Read, Listed}
-use Rattle.calls.specs.Said.{said, placeOf}
-use Rattle.calls.specs.Query.{pickedFrom}
+use Rattle.outcomes.specs.declared.answers.Place.{Place}
+use Rattle.outcomes.specs.declared.answers.Answer as core
+use Rattle.outcomes.specs.declared.answers.Answer.the-variants.{No, Count, At, Read, Listed}
+use Rattle.outcomes.specs.Said.{said, placeOf}
+use Rattle.outcomes.specs.Query.{pickedFrom}
 use Rattle.lines.specs.Line.{answerLine, PutLine}
 use Rattle.lines.specs.Turn.{heardFrom}
 

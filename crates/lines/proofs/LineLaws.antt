@@ -16,7 +16,7 @@ use Rattle.text.specs.declared.words.Word.the-variants as word
 use Rattle.text.specs.declared.requests.Request.{Request}
 use Rattle.text.specs.Parse.{parse, longestLine}
 use Rattle.text.specs.Asked.{ask, askedBy, asked, lineBytes, Requested}
-use Rattle.calls.specs.Said.{Said}
+use Rattle.outcomes.specs.Said.{Said}
 use Rattle.lines.specs.declared.sessions.Left.{Left}
 use Rattle.lines.specs.Left.{left, leaves}
 use Rattle.lines.specs.Turn.{Turn, turnOf, heardFrom, Turned}

@@ -33,14 +33,14 @@ use Rattle.text.specs.declared.words.Word.{Word}
 use Rattle.text.specs.declared.words.Word.the-variants as word
 use Rattle.text.specs.declared.requests.Request.{Request}
 use Rattle.text.specs.Asked.{askedBy, asked}
-use Rattle.calls.specs.declared.answers.Place.{Place}
-use Rattle.calls.specs.declared.answers.Answer as core
-use Rattle.calls.specs.declared.answers.Answer.the-variants.{No, Count, At, Read, Listed}
-use Rattle.calls.specs.Said.{Said, no, numbers, value, words, said}
-use Rattle.calls.specs.Outcome.{Outcome, outcome, unless}
-use Rattle.calls.specs.Calls.{own, reseated, beginning, createOf, beginOf, readOf, updateOf, deleteOf, insertOf, commitOf, tidyOf, abortOf}
-use Rattle.calls.specs.Query.{rowsSeen, flipsSeen, queryOf}
-use Rattle.calls.specs.Query as calls
+use Rattle.outcomes.specs.declared.answers.Place.{Place}
+use Rattle.outcomes.specs.declared.answers.Answer as core
+use Rattle.outcomes.specs.declared.answers.Answer.the-variants.{No, Count, At, Read, Listed}
+use Rattle.outcomes.specs.Said.{Said, no, numbers, value, words, said}
+use Rattle.outcomes.specs.Outcome.{Outcome, outcome, unless}
+use Rattle.outcomes.specs.Calls.{own, reseated, beginning, createOf, beginOf, readOf, updateOf, deleteOf, insertOf, commitOf, tidyOf, abortOf}
+use Rattle.outcomes.specs.Query.{rowsSeen, flipsSeen, queryOf}
+use Rattle.outcomes.specs.Query as calls
 use Rattle.follow.specs.Heard.{heard}
 use Rattle.demands.specs.Asks.{Ask, create, begin, query, read, update, delete, insert, commit, tidy, abort, comesTo}
 use Rattle.door.specs.Accepts.{accepts}

@@ -9,8 +9,8 @@ use Rattle.bits.specs.Rows.{rowsOf}
 use Rattle.rules.specs.Calls.{Call, Answer, refused}
 use Rattle.rules.specs.Calls as rules
 use Rattle.tables.specs.Cells.{Tables}
-use Rattle.calls.specs.Said.{Said}
-use Rattle.calls.specs.Query.{pickedFrom}
+use Rattle.outcomes.specs.Said.{Said}
+use Rattle.outcomes.specs.Query.{pickedFrom}
 use Rattle.follow.specs.Heard.{heardWith}
 use Rattle.demands.specs.Asks.{Ask, create, begin, query, read, update, delete, insert, commit, tidy, abort, comesTo, told}
 

@@ -1,5 +1,5 @@
 // A line answered.
-use crate::answers;
+use crate::printing;
 use crate::sessions::Lined;
 use crate::sessions::nothing;
 use crate::turns;
@@ -70,7 +70,7 @@ fn line_in(
     );
     let answer = d.answer;
     let left = d.left;
-    let len = answers::put_line(out, answer, words, scratch);
+    let len = printing::put_line(out, answer, words, scratch);
     Lined {
         len: len,
         left: left,

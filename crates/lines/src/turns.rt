@@ -1,9 +1,9 @@
 // What a line asks for is done, by the public call of its word.
 use crate::sessions::Left;
 use crate::sessions::left_at;
-use calls::Answer;
 use door::Held;
 use door::Sessions;
+use outcomes::Answer;
 use tables::Refusal;
 use tables::Session;
 use text::Request;
@@ -15,7 +15,7 @@ ghost use lib.ListN.{length};
 ghost use Rattle.tables.specs.Cells.{tables};
 ghost use Rattle.text.specs.declared.words.Word.the-variants.{Column};
 ghost use Rattle.text.specs.Asked.{asked};
-ghost use Rattle.calls.specs.Said.{said, no};
+ghost use Rattle.outcomes.specs.Said.{said, no};
 ghost use Rattle.door.specs.Accepts.{accepts};
 ghost use Rattle.lines.specs.Left.{left, leaves, leftAt};
 ghost use Rattle.lines.specs.Turn.{Turned};

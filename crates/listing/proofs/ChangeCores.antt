@@ -27,19 +27,19 @@ use Rattle.history.specs.Read.{standingOf, readCells}
 use Rattle.history.proofs.Meets.{read-meets}
 use Rattle.history.proofs.Ready.{read-ready}
 use Rattle.lent.specs.declared.seats.Seat.{Seat}
-use Rattle.calls.specs.declared.answers.Answer.the-variants as answer
-use Rattle.calls.specs.declared.answers.Relisted.{Relisted}
-use Rattle.calls.specs.declared.enter.Test.the-variants.{Passed, No}
-use Rattle.calls.specs.Outcome.{Outcome, unless}
-use Rattle.calls.specs.Calls.{own, spotOf, listedAt, relisted, updateOf, deleteOf, insertOf}
-use Rattle.calls.specs.Seats.{seatOf, relistsNone, relisting, Serves}
-use Rattle.calls.specs.Enter.{whyOf, openedBy, valuedBy}
-use Rattle.calls.specs.Opened.{Usable, OpenIn, SettlesAny}
+use Rattle.outcomes.specs.declared.answers.Answer.the-variants as answer
+use Rattle.outcomes.specs.declared.answers.Relisted.{Relisted}
+use Rattle.outcomes.specs.declared.enter.Test.the-variants.{Passed, No}
+use Rattle.outcomes.specs.Outcome.{Outcome, unless}
+use Rattle.outcomes.specs.Calls.{own, spotOf, listedAt, putBack, updateOf, deleteOf, insertOf}
+use Rattle.outcomes.specs.Seats.{seatOf, relistsNone, relisting, Serves}
+use Rattle.outcomes.specs.Enter.{whyOf, openedBy, valuedBy}
+use Rattle.outcomes.specs.Opened.{Usable, OpenIn, SettlesAny}
 use Rattle.listing.specs.Change.{appendOf, targetPut, changeOf, ChangesRow, Stands}
-use Rattle.calls.specs.declared.enter.Test as asked
-use Rattle.calls.proofs.Entered.{bare, opened-goes, opened-shows, valued-passed, valued-goes, valued-shows}
-use Rattle.calls.proofs.Serving.{idle-relisting, idle-left, opened-refused, valued-refused}
-use Rattle.calls.proofs.OpenLaws.{open-start, open-rows, open-list, open-facts}
+use Rattle.outcomes.specs.declared.enter.Test as asked
+use Rattle.outcomes.proofs.Entered.{bare, opened-goes, opened-shows, valued-passed, valued-goes, valued-shows}
+use Rattle.outcomes.proofs.Serving.{idle-relisting, idle-left, opened-refused, valued-refused}
+use Rattle.outcomes.proofs.OpenLaws.{open-start, open-rows, open-list, open-facts}
 
 module _ (clock slots words heads log changes : List ℕ) where
   abbrev lent : List cells.Session → Tables
@@ -54,7 +54,7 @@ module _ (clock slots words heads log changes : List ℕ) where
         (session (meaning t) n) row ∷ []
 
     abbrev put : ℕ → Tables → Outcome
-    put n t = relisted t n (listedAt (own t n) (spotOf (own t n) row) row to)
+    put n t = putBack t n (listedAt (own t n) (spotOf (own t n) row) row to)
 
     abbrev stands : Option ℕ
     stands = standing (target (entries x) row) (readCells slots words heads log changes (valuesIn clock) (x .start .0) row)
@@ -122,7 +122,7 @@ module _ (clock slots words heads log changes : List ℕ) where
     unfolding insertOf tests
     insert-refused why d h k =
         valued-refused clock slots words heads log changes [] x n (insert n v)
-        (λ t. relisted t n (listedAt (own t n) (own t n .count) 65535 v)) test why h
+        (λ t. putBack t n (listedAt (own t n) (own t n .count) 65535 v)) test why h
         (relisting d n) (d .answer) (idle-relisting d n why k)
         (λ t. listFull (session (meaning t) n) ∷ []) v (λ t. refl) q
 

@@ -21,15 +21,15 @@ use Rattle.tables.specs.Meaning.{targetOf, entries}
 use Rattle.tables.proofs.Means.{length-entries}
 use Rattle.history.specs.declared.read.Standing.{Standing}
 use Rattle.history.specs.Read.{standingOf, readCells, ReadReady}
-use Rattle.calls.specs.declared.answers.Relisted.{Relisted}
-use Rattle.calls.specs.declared.answers.Answer.the-variants.{No}
-use Rattle.calls.specs.Outcome.{unless}
-use Rattle.calls.specs.Calls.{spotOf}
-use Rattle.calls.specs.Seats.{relists, relistsNone, relisting}
-use Rattle.calls.specs.Opened.{SettlesAny}
+use Rattle.outcomes.specs.declared.answers.Relisted.{Relisted}
+use Rattle.outcomes.specs.declared.answers.Answer.the-variants.{No}
+use Rattle.outcomes.specs.Outcome.{unless}
+use Rattle.outcomes.specs.Calls.{spotOf}
+use Rattle.outcomes.specs.Seats.{relists, relistsNone, relisting}
+use Rattle.outcomes.specs.Opened.{SettlesAny}
 use Rattle.listing.specs.Change.{appendOf, targetPut, Stands}
-use Rattle.calls.proofs.Serving.{idle-relisting, idle-left, relisted-left}
-use Rattle.calls.proofs.OpenLaws.{open-list, listed-target, listed-lists, unlisted-target, unlisted-spot, unlisted-lists}
+use Rattle.outcomes.proofs.Serving.{idle-relisting, idle-left, relisted-left}
+use Rattle.outcomes.proofs.OpenLaws.{open-list, listed-target, listed-lists, unlisted-target, unlisted-spot, unlisted-lists}
 
 -- ---- the standing value of a row
 

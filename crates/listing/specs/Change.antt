@@ -10,15 +10,15 @@ use Rattle.tables.specs.declared.session.Session.{Session}
 use Rattle.tables.specs.Cells.{Tables, valuesIn}
 use Rattle.tables.specs.Meaning.{meaning}
 use Rattle.history.specs.Read.{ReadReady}
-use Rattle.calls.specs.declared.answers.Relisted.{Relisted}
-use Rattle.calls.specs.Outcome.{Outcome, unless}
-use Rattle.calls.specs.Calls.{own, spotOf, listedAt, relisted}
-use Rattle.calls.specs.Seats.{relisting}
-use Rattle.calls.specs.Opened.{Settles}
+use Rattle.outcomes.specs.declared.answers.Relisted.{Relisted}
+use Rattle.outcomes.specs.Outcome.{Outcome, unless}
+use Rattle.outcomes.specs.Calls.{own, spotOf, listedAt, putBack}
+use Rattle.outcomes.specs.Seats.{relisting}
+use Rattle.outcomes.specs.Opened.{Settles}
 
 -- an entry set at a place of session n's list, unless a test refuses
 abbrev pub entered : List Test → Tables → ℕ → ℕ → ℕ → ℕ → Outcome
-entered tests t n i at to = unless (firstOf tests) t [] (relisted t n (listedAt (own t n) i at to))
+entered tests t n i at to = unless (firstOf tests) t [] (putBack t n (listedAt (own t n) i at to))
 
 -- an entry more: 9
 unfoldable pub appendOf : Tables → ℕ → ℕ → ℕ → Outcome

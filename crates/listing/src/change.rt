@@ -1,8 +1,8 @@
 // Update, delete and insert: they write only to the session's list.
-use calls::Relisted;
-use calls::Test;
 use history::Standing;
 use lent::Seat;
+use outcomes::Relisted;
+use outcomes::Test;
 use tables::Refusal;
 use tables::Row;
 use tables::Session;
@@ -14,9 +14,9 @@ ghost use Rattle.rules.specs.Lists as rules;
 ghost use Rattle.tables.specs.Cells.{tables, valuesIn};
 ghost use Rattle.tables.specs.Meaning.{entries};
 ghost use Rattle.history.specs.Read.{standingOf, readCells};
-ghost use Rattle.calls.specs.Calls.{spotOf, updateOf, deleteOf, insertOf};
-ghost use Rattle.calls.specs.Seats.{Serves, relisting};
-ghost use Rattle.calls.specs.Opened.{Usable, SettlesAny};
+ghost use Rattle.outcomes.specs.Calls.{spotOf, updateOf, deleteOf, insertOf};
+ghost use Rattle.outcomes.specs.Seats.{Serves, relisting};
+ghost use Rattle.outcomes.specs.Opened.{Usable, SettlesAny};
 ghost use Rattle.listing.specs.Change.{appendOf, targetPut, ChangesRow, Stands};
 
 // The row's standing value: its listed target if any, otherwise its read at the start.
@@ -37,7 +37,7 @@ fn standing(
         (valuesIn (now (clock .entry))) (s .start .0) (row .0)) ⌝ }
 {
     if spot < bits::wide(s.count) {
-        return calls::target_of(s.to[spot]);
+        return outcomes::target_of(s.to[spot]);
     }
     let start = s.start;
     let c = tables::clock_of(clock);
@@ -51,9 +51,9 @@ fn appended(s: Session, at: u16, to: u8) -> Relisted
 {
     let count = s.count;
     if tables::MAX_ENTRIES <= count {
-        return calls::not_put_back(Refusal::ListFull);
+        return outcomes::not_put_back(Refusal::ListFull);
     }
-    calls::put_back(tables::with_entry(s, bits::wide(count), at, to, count + 1))
+    outcomes::put_back(tables::with_entry(s, bits::wide(count), at, to, count + 1))
 }
 
 // The session with the row's target: in its entry where it is listed, otherwise in an entry more.
@@ -64,7 +64,7 @@ fn listed(s: Session, row: Row, to: u8, spot: usize) -> Relisted
     let at = bits::short(row.0);
     let count = s.count;
     if spot < bits::wide(count) {
-        return calls::put_back(tables::with_entry(s, spot, at, to, count));
+        return outcomes::put_back(tables::with_entry(s, spot, at, to, count));
     }
     appended(s, at, to)
 }
@@ -88,12 +88,12 @@ fn change_row(
 {
     let rows = s.rows;
     if rows.0 <= row.0 {
-        return calls::not_put_back(Refusal::NoRow);
+        return outcomes::not_put_back(Refusal::NoRow);
     }
-    let spot = calls::spot_of(s, row);
+    let spot = outcomes::spot_of(s, row);
     let held = standing(clock, slots, words, heads, log, changes, s, row, spot);
     let Standing::Holds(_) = held else {
-        return calls::not_put_back(Refusal::RowAbsent);
+        return outcomes::not_put_back(Refusal::RowAbsent);
     };
     listed(s, row, to, spot)
 }
@@ -118,9 +118,9 @@ pub fn update_in(
         (now (changes .entry))) [] seat n (relisting r n) (r .answer) (λ t. updateOf t n (row .0) (v .0)) ⌝ }
 {
     let s = seat.session;
-    let test = calls::valued(clock, slots, words, heads, log, changes, seat, n, v);
+    let test = outcomes::valued(clock, slots, words, heads, log, changes, seat, n, v);
     match test {
-        Test::No(why) => calls::not_put_back(why),
+        Test::No(why) => outcomes::not_put_back(why),
         Test::Passed => change_row(clock, slots, words, heads, log, changes, s, row, v.0 as u8),
     }
 }
@@ -144,9 +144,9 @@ pub fn delete_in(
         (now (changes .entry))) [] seat n (relisting r n) (r .answer) (λ t. deleteOf t n (row .0)) ⌝ }
 {
     let s = seat.session;
-    let test = calls::opened(clock, slots, words, heads, log, changes, seat, n);
+    let test = outcomes::opened(clock, slots, words, heads, log, changes, seat, n);
     match test {
-        Test::No(why) => calls::not_put_back(why),
+        Test::No(why) => outcomes::not_put_back(why),
         Test::Passed => change_row(clock, slots, words, heads, log, changes, s, row, 255),
     }
 }
@@ -170,9 +170,9 @@ pub fn insert_in(
         (now (changes .entry))) [] seat n (relisting r n) (r .answer) (λ t. insertOf t n (v .0)) ⌝ }
 {
     let s = seat.session;
-    let test = calls::valued(clock, slots, words, heads, log, changes, seat, n, v);
+    let test = outcomes::valued(clock, slots, words, heads, log, changes, seat, n, v);
     match test {
-        Test::No(why) => calls::not_put_back(why),
+        Test::No(why) => outcomes::not_put_back(why),
         Test::Passed => appended(s, tables::NEW, v.0 as u8),
     }
 }

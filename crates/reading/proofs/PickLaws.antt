@@ -7,10 +7,10 @@ use Prim.Native.Nat.{ℕ, _+_, _-_, _*_, _≤_, _<_}
 use native.Mathlib.Omega.{arith}
 use borrow.Author.Tests.{le-leb, lt-leb, lt-ltb, le-ltb}
 use lib.ListN.{length, take, drop}
-use Rattle.calls.specs.declared.answers.Place.{Place}
-use Rattle.calls.specs.declared.answers.Place.the-variants.{Slot, Scratch}
-use Rattle.calls.specs.Said.{placeOf}
-use Rattle.calls.specs.Query.{pickedFrom}
+use Rattle.outcomes.specs.declared.answers.Place.{Place}
+use Rattle.outcomes.specs.declared.answers.Place.the-variants.{Slot, Scratch}
+use Rattle.outcomes.specs.Said.{placeOf}
+use Rattle.outcomes.specs.Query.{pickedFrom}
 
 module _ (ws scratch : List ℕ) (place : Place) where
   abbrev part : List ℕ

@@ -24,18 +24,18 @@ use Rattle.history.specs.Query.{frontFilled, foundAt, scratchAt, Ready}
 use Rattle.history.proofs.Ready.{ready}
 use Rattle.history.proofs.Meets.{count-meets, scratch-meets}
 use Rattle.lent.specs.declared.seats.Seat.{Seat}
-use Rattle.calls.specs.declared.answers.Place.the-variants.{Slot, Scratch}
-use Rattle.calls.specs.declared.answers.Answer.{Answer}
-use Rattle.calls.specs.declared.answers.Answer.the-variants as answer
-use Rattle.calls.specs.declared.enter.Test as asked
-use Rattle.calls.specs.declared.enter.Test.the-variants.{Passed, No}
-use Rattle.calls.specs.Outcome.{Outcome}
-use Rattle.calls.specs.Query.{rowsSeen, flipsSeen, queryOf}
-use Rattle.calls.specs.Query as query
-use Rattle.calls.specs.Seats.{seatOf, untouched, Serves}
-use Rattle.calls.specs.Enter.{whyOf, valuedBy}
-use Rattle.calls.proofs.Entered.{bare, Goes, Shows, Valued, valued-passed, valued-goes, valued-shows}
-use Rattle.calls.proofs.Serving.{idle, refused-outcome, accepted-outcome, valued-refused}
+use Rattle.outcomes.specs.declared.answers.Place.the-variants.{Slot, Scratch}
+use Rattle.outcomes.specs.declared.answers.Answer.{Answer}
+use Rattle.outcomes.specs.declared.answers.Answer.the-variants as answer
+use Rattle.outcomes.specs.declared.enter.Test as asked
+use Rattle.outcomes.specs.declared.enter.Test.the-variants.{Passed, No}
+use Rattle.outcomes.specs.Outcome.{Outcome}
+use Rattle.outcomes.specs.Query.{rowsSeen, flipsSeen, queryOf}
+use Rattle.outcomes.specs.Query as query
+use Rattle.outcomes.specs.Seats.{seatOf, untouched, Serves}
+use Rattle.outcomes.specs.Enter.{whyOf, valuedBy}
+use Rattle.outcomes.proofs.Entered.{bare, Goes, Shows, Valued, valued-passed, valued-goes, valued-shows}
+use Rattle.outcomes.proofs.Serving.{idle, refused-outcome, accepted-outcome, valued-refused}
 
 module _ (clock slots words heads log changes scratch : List ℕ) (x : Seat) (n v threshold : ℕ) (test : asked.Test)
     (q : whyOf test ≡ valuedBy clock slots words heads log changes x n v) where

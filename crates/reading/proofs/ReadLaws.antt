@@ -24,17 +24,17 @@ use Rattle.history.specs.Read.{standingOf, readCells, ReadReady}
 use Rattle.history.proofs.Ready.{read-ready}
 use Rattle.history.proofs.Meets.{read-meets}
 use Rattle.lent.specs.declared.seats.Seat.{Seat}
-use Rattle.calls.specs.declared.answers.Answer.{Answer}
-use Rattle.calls.specs.declared.answers.Answer.the-variants as answer
-use Rattle.calls.specs.declared.enter.Test as asked
-use Rattle.calls.specs.declared.enter.Test.the-variants.{Passed, No}
-use Rattle.calls.specs.Said.{value}
-use Rattle.calls.specs.Outcome.{Outcome, outcome, refusalAt}
-use Rattle.calls.specs.Calls.{readOf}
-use Rattle.calls.specs.Seats.{seatOf, untouched, Serves}
-use Rattle.calls.specs.Enter.{whyOf, openedBy}
-use Rattle.calls.proofs.Entered.{bare, Goes, Shows, Opened, opened-passed, opened-goes, opened-shows}
-use Rattle.calls.proofs.Serving.{idle, refused-outcome, accepted-outcome, opened-refused}
+use Rattle.outcomes.specs.declared.answers.Answer.{Answer}
+use Rattle.outcomes.specs.declared.answers.Answer.the-variants as answer
+use Rattle.outcomes.specs.declared.enter.Test as asked
+use Rattle.outcomes.specs.declared.enter.Test.the-variants.{Passed, No}
+use Rattle.outcomes.specs.Said.{value}
+use Rattle.outcomes.specs.Outcome.{Outcome, outcome, refusalAt}
+use Rattle.outcomes.specs.Calls.{readOf}
+use Rattle.outcomes.specs.Seats.{seatOf, untouched, Serves}
+use Rattle.outcomes.specs.Enter.{whyOf, openedBy}
+use Rattle.outcomes.proofs.Entered.{bare, Goes, Shows, Opened, opened-passed, opened-goes, opened-shows}
+use Rattle.outcomes.proofs.Serving.{idle, refused-outcome, accepted-outcome, opened-refused}
 
 module _ (clock slots words heads log changes : List ℕ) (x : Seat) (n row : ℕ) (test : asked.Test)
     (q : whyOf test ≡ openedBy clock slots words heads log changes x n) where

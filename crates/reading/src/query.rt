@@ -1,18 +1,18 @@
 // Query, the picker, and read.
-use calls::Answer;
-use calls::Place;
-use calls::Test;
 use lent::Seat;
+use outcomes::Answer;
+use outcomes::Place;
+use outcomes::Test;
 use tables::Refusal;
 use tables::Row;
 use tables::Value;
 ghost use mathlib.Core.Path.{_≡_};
 ghost use mathlib.Core.List.{[], _∷_};
 ghost use Rattle.tables.specs.Cells.{tables};
-ghost use Rattle.calls.specs.Seats.{Serves, untouched};
-ghost use Rattle.calls.specs.Calls.{readOf};
-ghost use Rattle.calls.specs.Query.{queryOf, pickedFrom};
-ghost use Rattle.calls.specs.Said.{placeOf};
+ghost use Rattle.outcomes.specs.Seats.{Serves, untouched};
+ghost use Rattle.outcomes.specs.Calls.{readOf};
+ghost use Rattle.outcomes.specs.Query.{queryOf, pickedFrom};
+ghost use Rattle.outcomes.specs.Said.{placeOf};
 
 // Query: the slot's own words where no row is flipped, the scratch's otherwise.
 pub fn query_in(
@@ -37,7 +37,7 @@ pub fn query_in(
 {
     let s = seat.session;
     let start = s.start;
-    let test = calls::valued(clock, slots, words, heads, log, changes, seat, n, v);
+    let test = outcomes::valued(clock, slots, words, heads, log, changes, seat, n, v);
     match test {
         Test::No(why) => Answer::No(why),
         Test::Passed => {
@@ -100,7 +100,7 @@ pub fn read_in(
     let s = seat.session;
     let start = s.start;
     let rows = s.rows;
-    let test = calls::opened(clock, slots, words, heads, log, changes, seat, n);
+    let test = outcomes::opened(clock, slots, words, heads, log, changes, seat, n);
     match test {
         Test::No(why) => Answer::No(why),
         Test::Passed => {

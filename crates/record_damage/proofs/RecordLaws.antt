@@ -9,7 +9,7 @@ use lib.Dec.{leb, eqb, leb·zero}
 use lib.ListN.{getD}
 use Rattle.bits.specs.All.{allBelow}
 use Rattle.tables.specs.declared.clock.Clock.{Clock}
-use Rattle.tables.specs.Cells.{firstIn, stampIn, changesIn, rowsAt, endAt}
+use Rattle.tables.specs.Cells.{firstIn, stampIn, changesIn, rowsInLog, endAt}
 use Rattle.tables.specs.Clock.{clockIn}
 use Rattle.tables.specs.Damage.{allIn, recordFits, recordsFit}
 use Rattle.tables.proofs.Fold.{below-front, in-ext}
@@ -54,7 +54,7 @@ each log first s n a b e p q =
 
 -- and the last
 pub all-records : (clock log : List ℕ) (c : Clock) (n end u used rows : ℕ) (a b : Bool) → c ≡ clockIn clock → n ≡ c .stamp .0
-    → end ≡ endAt log (c .stamp .0) → u ≡ changesIn clock → used ≡ u → rows ≡ rowsAt (c .first .0) log (c .stamp .0)
+    → end ≡ endAt log (c .stamp .0) → u ≡ changesIn clock → used ≡ u → rows ≡ rowsInLog (c .first .0) log (c .stamp .0)
     → a ≡ (eqb n 0 || recordFits (c .first .0) log 0) → b ≡ allIn (recordFits 0 log) 1 n
     → a && b && eqb end used && eqb rows (c .rows .0) ≡ recordsFit clock log
 unfolding recordsFit clockIn
@@ -65,4 +65,4 @@ all-records clock log c n end u used rows a b e f g h o i j k =
     (ap₂ (λ (x y : Bool). x && y)
     (each log (firstIn clock) (stampIn clock) n a b (f ∙ s) (j ∙ ap (λ (x : ℕ). eqb n 0 || recordFits x log 0) t) k)
     (ap₂ eqb (g ∙ ap (endAt log) s) (o ∙ h)))
-    (ap₂ eqb (i ∙ ap₂ (λ (x y : ℕ). rowsAt x log y) t s) (ap (λ (x : Clock). x .rows .0) e))
+    (ap₂ eqb (i ∙ ap₂ (λ (x y : ℕ). rowsInLog x log y) t s) (ap (λ (x : Clock). x .rows .0) e))

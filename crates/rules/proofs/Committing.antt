@@ -26,7 +26,7 @@ use Rattle.rules.specs.Commit.{toggled, newSet, rowChanges, insertChange
 use Rattle.rules.specs.Calls.{Column, cell, holds}
 use Rattle.rules.specs.Plain.{Wish, Event, committed, rewritten, newRows, met, isWished, replay, tidied, inRows}
 use Rattle.rules.specs.Tidy.{moves, moved, stale, tidyChange, tidyChanges}
-use Rattle.rules.proofs.Invariant.{Within, EntriesFit, Once}
+use Rattle.rules.proofs.Invariant.{Within, EntriesFit, EachOnce}
 use Rattle.rules.proofs.Small.{clash, xorb-false, turn-none, or-parts, option-cases}
 use Rattle.rules.proofs.Changes.{lastNaming-append, names-append, not-named, none-named, last-fails}
 use Rattle.rules.proofs.LogLaws.{flipSet-new, flipSet-kept, flipSet-since, version-newest}
@@ -45,7 +45,7 @@ no-target es r e = go (target es r) (sym (lists-target es r) ∙ e)
     go (some t) q = absurd (true≢false q)
 
 -- a listed row has the set for its target
-rows-naming : (g : ℕ → Option ℕ → ℕ) (es : List Entry) (r : ℕ) → Once es → lastNaming (rowChanges g es) r ≡ Option·map (g r) (target es r)
+rows-naming : (g : ℕ → Option ℕ → ℕ) (es : List Entry) (r : ℕ) → EachOnce es → lastNaming (rowChanges g es) r ≡ Option·map (g r) (target es r)
 rows-naming g [] r o = refl
 rows-naming g (add v ∷ es) r o = rows-naming g es r o
 rows-naming g (alter q t ∷ es) r o = rw (rows-naming g es r (o .1)) (go (eq-cases q r))
@@ -117,7 +117,7 @@ commitOf g rows es =
 -- ---- the log after a commit, and one value's versions
 
 module _ (C : ℕ) (col : Column) (rows : ℕ) (log : Log) (h : List Event) (c : Logged C col rows log h)
-    (es : List Entry) (ws : List Wish) (same : Same es ws) (once : Once es) (fits : EntriesFit C rows es) (g : ℕ → Option ℕ → ℕ) where
+    (es : List Entry) (ws : List Wish) (same : Same es ws) (once : EachOnce es) (fits : EntriesFit C rows es) (g : ℕ → Option ℕ → ℕ) where
   -- what was added, by its place
   added : ℕ → Option ℕ
   added r = getD (map some (inserts es)) (r - rows) none
@@ -253,7 +253,7 @@ fits-row C n es r f l =
 -- ---- the whole index after a commit
 
 module _ (C : ℕ) (col : Column) (rows : ℕ) (log : Log) (chains : List Chain) (h : List Event) (c : Core C col rows log chains h)
-    (s : ℕ) (old : s ≤ length h) (es : List Entry) (ws : List Wish) (same : Same es ws) (once : Once es)
+    (s : ℕ) (old : s ≤ length h) (es : List Entry) (ws : List Wish) (same : Same es ws) (once : EachOnce es)
     (fits : EntriesFit C (length (columnAfter col h s)) es) (room : rows + length (inserts es) ≤ maxRows) where
   -- with the sets at the present stamp, where each listed row holds now what it held at s
   pub commit-present : ((r : ℕ) → lists es r ≡ true → cell (replay col h) r ≡ cell (columnAfter col h s) r)

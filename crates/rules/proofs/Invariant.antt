@@ -46,10 +46,10 @@ EntriesFit C n (alter r t ∷ es) = (r < n) × Within C t × EntriesFit C n es
 EntriesFit C n (add v ∷ es) = (v < C) × EntriesFit C n es
 
 -- "listed once"
-abbrev pub Once : List Entry → Type 0
-Once [] = Unit {0}
-Once (alter r t ∷ es) = (lists es r ≡ false) × Once es
-Once (add v ∷ es) = Once es
+abbrev pub EachOnce : List Entry → Type 0
+EachOnce [] = Unit {0}
+EachOnce (alter r t ∷ es) = (lists es r ≡ false) × EachOnce es
+EachOnce (add v ∷ es) = EachOnce es
 
 -- "open with a start at most the stamp, the row count of that moment, at most 32 entries, rows below that count and listed
 -- once, targets and inserts below C or (targets only) absent"
@@ -57,7 +57,7 @@ pub record OpenFits (C n : ℕ) (log : Log) (s m : ℕ) (es : List Entry) : Type
   pub start-old : s ≤ stampOf log
   pub start-rows : m ≡ rowsAt n log s
   pub short : length es ≤ maxEntries
-  pub once : Once es
+  pub once : EachOnce es
   pub fit : EntriesFit C m es
 
 -- "A session is free and all 0, or open with .."

@@ -14,7 +14,7 @@ use Rattle.rules.specs.Limits.{maxEntries}
 use Rattle.rules.specs.State.{Entry, alter, add}
 use Rattle.rules.specs.Lists.{target, lists, put, inserts}
 use Rattle.rules.specs.Refusals.{isFull}
-use Rattle.rules.proofs.Invariant.{Within, EntriesFit, Once}
+use Rattle.rules.proofs.Invariant.{Within, EntriesFit, EachOnce}
 use Rattle.rules.proofs.Small.{length-snoc}
 
 -- whether there is an answer
@@ -78,12 +78,12 @@ length-put (alter q t ∷ es) p u = go (eqb q p) (length-put es p u)
     go true ih = refl
     go false ih = rw ih (suc-cond (lists es p) (length es) (suc (length es)))
 
-once-put : (es : List Entry) (p : ℕ) (u : Option ℕ) → Once es → Once (put es p u)
+once-put : (es : List Entry) (p : ℕ) (u : Option ℕ) → EachOnce es → EachOnce (put es p u)
 once-put [] p u h = (refl, tt)
 once-put (add v ∷ es) p u h = once-put es p u h
 once-put (alter q t ∷ es) p u h = go (eqb q p) refl (once-put es p u (h .1))
   where
-    go : (b : Bool) → eqb q p ≡ b → Once (put es p u) → Once (cond b (alter p u ∷ es) (alter q t ∷ put es p u))
+    go : (b : Bool) → eqb q p ≡ b → EachOnce (put es p u) → EachOnce (cond b (alter p u ∷ es) (alter q t ∷ put es p u))
     go true e ih = (rw (← (eqb-true q p e)) (h .0), h .1)
     go false e ih = (rw (lists-put es p u q, ne-eqb p q (λ f. eqb-false q p e (sym f))) (h .0), ih)
 
@@ -111,7 +111,7 @@ inserts-insert [] v = refl
 inserts-insert (alter q t ∷ es) v = inserts-insert es v
 inserts-insert (add w ∷ es) v = rw (inserts-insert es v)
 
-once-insert : (es : List Entry) (v : ℕ) → Once es → Once (es ++ (add v ∷ []))
+once-insert : (es : List Entry) (v : ℕ) → EachOnce es → EachOnce (es ++ (add v ∷ []))
 once-insert [] v h = tt
 once-insert (alter q t ∷ es) v h = (rw (lists-insert es v q) (h .0), once-insert es v (h .1))
 once-insert (add w ∷ es) v h = once-insert es v h
@@ -125,7 +125,7 @@ fits-insert C n (add w ∷ es) v h l = (h .0, fits-insert C n es v (h .1) l)
 
 pub record Kept (C n : ℕ) (es es′ : List Entry) : Type 0 where
   pub fits : EntriesFit C n es → EntriesFit C n es′
-  pub once : Once es → Once es′
+  pub once : EachOnce es → EachOnce es′
   pub short : length es ≤ maxEntries → length es′ ≤ maxEntries
 
 -- a change of a row, where the list has room or the row in it

@@ -18,7 +18,7 @@ use Rattle.rules.specs.Refusals.{badColumn, tests, refusal, AllFail}
 use Rattle.rules.specs.Step.{created, seated, beginning, relisted, committing, tidying, effect, unless, step}
 use Rattle.rules.specs.Plain.{Wish, hold, grow, Event, committed, tidied, Visitor, away, sitting, Observer, visitor, movedBy, sits}
 use Rattle.rules.specs.Plain.{sitsDown, wishing, commitsNow, tidiesNow, started, accepts, watches}
-use Rattle.rules.proofs.Invariant.{EntriesFit, Once}
+use Rattle.rules.proofs.Invariant.{EntriesFit, EachOnce}
 use Rattle.rules.proofs.Small.{length-snoc, same-everywhere, pair-set}
 use Rattle.rules.proofs.PlainLaws.{columnAfter, column-old, column-now, Same, same-none, same-put, same-insert}
 use Rattle.rules.proofs.ListLaws.{Kept, put-kept, insert-kept}
@@ -32,7 +32,7 @@ pub record Seated (C : ℕ) (col : Column) (h : List Event) (s n : ℕ) (es : Li
   pub old : s ≤ length h
   pub count : n ≡ length (columnAfter col h s)
   pub fits : EntriesFit C n es
-  pub once : Once es
+  pub once : EachOnce es
   pub short : length es ≤ maxEntries
   pub same : Same es ws
 

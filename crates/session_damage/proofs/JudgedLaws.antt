@@ -14,7 +14,7 @@ use Rattle.bits.proofs.Cases.{same-truth}
 use Rattle.rules.specs.Limits.{maxValues, maxRows, maxRecords, maxEntries}
 use Rattle.tables.specs.declared.clock.Clock.{Clock}
 use Rattle.tables.specs.declared.session.Session.{Session}
-use Rattle.tables.specs.Cells.{rowsAt}
+use Rattle.tables.specs.Cells.{rowsInLog}
 use Rattle.tables.specs.Damage.{allZero, onceFits, openFits}
 use Rattle.tables.proofs.Sessions.{zero-facts}
 use Rattle.session_damage.specs.Parts.{listed, onceIn, entriesFit, startFits}
@@ -27,7 +27,7 @@ use Rattle.session_damage.proofs.EntryLaws.{entries-facts, entries-made
 record OpenTests (values first stamp : ℕ) (log : List ℕ) (x : Session) : Type 0 where
   live-one : x .live ≡ 1
   start-old : x .start .0 ≤ stamp
-  rows-then : eqb (x .rows .0) (rowsAt first log (x .start .0)) ≡ true
+  rows-then : eqb (x .rows .0) (rowsInLog first log (x .start .0)) ≡ true
   count-low : x .count ≤ 32
   all-listed : allBelow (listed values (x .rows .0) (x .at) (x .to)) (x .count) ≡ true
   all-once : allBelow (onceIn (x .at)) (x .count) ≡ true

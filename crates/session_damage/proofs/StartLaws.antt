@@ -8,7 +8,7 @@ use native.Mathlib.Omega.{arith}
 use lib.Dec.{leb, eqb}
 use lib.ListN.{length}
 use Rattle.tables.specs.declared.clock.Clock.{Clock}
-use Rattle.tables.specs.Cells.{rowsAt}
+use Rattle.tables.specs.Cells.{rowsInLog}
 use Rattle.session_damage.specs.Parts.{startFits}
 use Rattle.tables.proofs.Tests.{told, made, not-so}
 
@@ -17,7 +17,7 @@ pub record StartFacts (start rows : ℕ) (log : List ℕ) (c : Clock) : Type 0 w
   pub start-old : start ≤ c .stamp .0
   pub start-low : start ≤ 512
   pub log-room : 2048 ≤ length log
-  pub rows-then : eqb rows (rowsAt (c .first .0) log start) ≡ true
+  pub rows-then : eqb rows (rowsInLog (c .first .0) log start) ≡ true
 
 module _ (start rows : ℕ) (log : List ℕ) (c : Clock) where
   pub start-facts : startFits start rows log c ≡ true → StartFacts start rows log c
@@ -35,10 +35,10 @@ module _ (start rows : ℕ) (log : List ℕ) (c : Clock) where
   short-log h = not-so (startFits start rows log c) (λ e. omega (arith, start-facts e .log-room))
 
   -- the row count of that moment
-  pub known-start : (r : ℕ) → start ≤ c .stamp .0 → start ≤ 512 → 2048 ≤ length log → r ≡ rowsAt (c .first .0) log start
+  pub known-start : (r : ℕ) → start ≤ c .stamp .0 → start ≤ 512 → 2048 ≤ length log → r ≡ rowsInLog (c .first .0) log start
       → eqb rows r ≡ startFits start rows log c
   unfolding startFits
-  known-start r h l m e = ap (eqb rows) e ∙ ap (λ (t : Bool). t && eqb rows (rowsAt (c .first .0) log start)) (sym three)
+  known-start r h l m e = ap (eqb rows) e ∙ ap (λ (t : Bool). t && eqb rows (rowsInLog (c .first .0) log start)) (sym three)
     where
       three : leb start (c .stamp .0) && leb start 512 && leb 2048 (length log) ≡ true
       three = search made

@@ -8,7 +8,7 @@ use lib.Dec.{leb, eqb}
 use lib.ListN.{length, getD}
 use Rattle.bits.specs.All.{allBelow}
 use Rattle.tables.specs.declared.clock.Clock.{Clock}
-use Rattle.tables.specs.Cells.{rowsAt}
+use Rattle.tables.specs.Cells.{rowsInLog}
 use Rattle.tables.specs.Damage.{entryFits}
 
 -- entry i of a list is 0
@@ -35,4 +35,4 @@ entriesFit at to count rows values =
 -- a start that the log knows, with the row count of that moment
 unfoldable pub startFits : ℕ → ℕ → List ℕ → Clock → Bool
 startFits start rows log c =
-    leb start (c .stamp .0) && leb start 512 && leb 2048 (length log) && eqb rows (rowsAt (c .first .0) log start)
+    leb start (c .stamp .0) && leb start 512 && leb 2048 (length log) && eqb rows (rowsInLog (c .first .0) log start)

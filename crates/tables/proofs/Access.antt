@@ -8,7 +8,7 @@ use native.Mathlib.Omega.{arith}
 use borrow.Author.Tests.{le-leb, lt-leb}
 use lib.ListN.{length, getD, set}
 use Rattle.tables.specs.declared.clock.Clock.{Clock}
-use Rattle.tables.specs.Cells.{endAt, rowsAt}
+use Rattle.tables.specs.Cells.{endAt, rowsInLog}
 use Rattle.tables.specs.Stores.{putRecord}
 use Rattle.tables.specs.Clock.{clockOf, clockIn, lentClock}
 
@@ -17,7 +17,7 @@ pub end-later : (log : List ℕ) (s k r : ℕ) → k ≡ s → (k ≡ 0 → ⊥)
 end-later log zero k r e n q = absurd (n e)
 end-later log (suc s) k r e n q = let p : 1535 + k ≡ 1536 + s = omega arith in q ∙ ap (λ (i : ℕ). getD log i 0) p
 
-pub rows-later : (first : ℕ) (log : List ℕ) (s k : ℕ) → k ≡ s → (k ≡ 0 → ⊥) → getD log (1023 + k) 0 ≡ rowsAt first log s
+pub rows-later : (first : ℕ) (log : List ℕ) (s k : ℕ) → k ≡ s → (k ≡ 0 → ⊥) → getD log (1023 + k) 0 ≡ rowsInLog first log s
 rows-later first log zero k e n = absurd (n e)
 rows-later first log (suc s) k e n = let p : 1023 + k ≡ 1024 + s = omega arith in ap (λ (i : ℕ). getD log i 0) p
 

@@ -15,7 +15,7 @@ use Rattle.bits.proofs.Cases.{lt-cases}
 use Rattle.bits.specs.All.{allBelow}
 use Rattle.bits.proofs.AllLaws.{all-at, all-of}
 use Rattle.rules.specs.Limits.{maxValues, maxRows, maxSlots, maxRecords, maxChanges}
-use Rattle.tables.specs.Cells.{Tables, valuesIn, firstIn, stampIn, rowsIn, slotsIn, changesIn, recordStamp, recordKind, recordRows, recordEnd, rowsAt, endAt, changeRow, changeSet}
+use Rattle.tables.specs.Cells.{Tables, valuesIn, firstIn, stampIn, rowsIn, slotsIn, changesIn, recordStamp, recordKind, recordRows, recordEnd, rowsInLog, endAt, changeRow, changeSet}
 use Rattle.tables.specs.Room.{roomFor, roomy, Roomy}
 use Rattle.tables.specs.Damage.{clockFits, recordFits, recordsFit, allIn, changeFits, recordChangesFit, changesFit, slotsFit, headsFit, vectorsFit, sessionsFit, sound}
 use Rattle.tables.proofs.Tests.{told, made, either, or-left, or-right}
@@ -122,14 +122,14 @@ rises g n h a (suc b) p q = go (eq-or-lt-of-le p) (λ l. rises g n h a b l (omeg
 pub end-next : (log : List ℕ) (k : ℕ) → endAt log (k + 1) ≡ recordEnd log k
 end-next log k = ap (endAt log) (add-one k)
 
-pub rows-next : (first : ℕ) (log : List ℕ) (k : ℕ) → rowsAt first log (k + 1) ≡ recordRows log k
-rows-next first log k = ap (rowsAt first log) (add-one k)
+pub rows-next : (first : ℕ) (log : List ℕ) (k : ℕ) → rowsInLog first log (k + 1) ≡ recordRows log k
+rows-next first log k = ap (rowsInLog first log) (add-one k)
 
 -- the record after stamp k
 pub record RecordFacts (first : ℕ) (log : List ℕ) (k : ℕ) : Type 0 where
   pub bears : recordStamp log k ≡ k + 1
   pub kinds : (recordKind log k ≡ 1) ⊎ (recordKind log k ≡ 2)
-  pub rows-rise : rowsAt first log k ≤ rowsAt first log (suc k)
+  pub rows-rise : rowsInLog first log k ≤ rowsInLog first log (suc k)
   pub ends-rise : endAt log k ≤ endAt log (suc k)
 
 kind-cases : (n : ℕ) → eqb n 1 || eqb n 2 ≡ true → (n ≡ 1) ⊎ (n ≡ 2)
@@ -149,13 +149,13 @@ record-made first log k f = search (made, kind-made) depth 12
 
 module _ (c log : List ℕ) where
   pub records-made : ((k : ℕ) → k < stampIn c → RecordFacts (firstIn c) log k) → endAt log (stampIn c) ≡ changesIn c
-      → rowsAt (firstIn c) log (stampIn c) ≡ rowsIn c → recordsFit c log ≡ true
+      → rowsInLog (firstIn c) log (stampIn c) ≡ rowsIn c → recordsFit c log ≡ true
   unfolding recordsFit
   records-made h p q = search (made, all-of, record-made) depth 12
 
 module _ (c log : List ℕ) (e : recordsFit c log ≡ true) where
   three : (allBelow (recordFits (firstIn c) log) (stampIn c) ≡ true) × (endAt log (stampIn c) ≡ changesIn c)
-      × (rowsAt (firstIn c) log (stampIn c) ≡ rowsIn c)
+      × (rowsInLog (firstIn c) log (stampIn c) ≡ rowsIn c)
   unfolding recordsFit
   three = search told depth 12
 
@@ -165,23 +165,23 @@ module _ (c log : List ℕ) (e : recordsFit c log ≡ true) where
   pub last-end : endAt log (stampIn c) ≡ changesIn c
   last-end = three .1
 
-  pub last-rows : rowsAt (firstIn c) log (stampIn c) ≡ rowsIn c
+  pub last-rows : rowsInLog (firstIn c) log (stampIn c) ≡ rowsIn c
   last-rows = three .2
 
   pub ends-order : (a b : ℕ) → a ≤ b → b ≤ stampIn c → endAt log a ≤ endAt log b
   ends-order = rises (endAt log) (stampIn c) (λ k l. each-record k l .ends-rise)
 
-  pub rows-order : (a b : ℕ) → a ≤ b → b ≤ stampIn c → rowsAt (firstIn c) log a ≤ rowsAt (firstIn c) log b
-  rows-order = rises (rowsAt (firstIn c) log) (stampIn c) (λ k l. each-record k l .rows-rise)
+  pub rows-order : (a b : ℕ) → a ≤ b → b ≤ stampIn c → rowsInLog (firstIn c) log a ≤ rowsInLog (firstIn c) log b
+  rows-order = rises (rowsInLog (firstIn c) log) (stampIn c) (λ k l. each-record k l .rows-rise)
 
   -- the ends lie in the change table, the row counts are at most the current one
   pub end-high : (s : ℕ) → s ≤ stampIn c → endAt log s ≤ changesIn c
   end-high s h = omega (arith, ends-order s (stampIn c) h (omega arith), last-end)
 
-  pub rows-high-at : (s : ℕ) → s ≤ stampIn c → rowsAt (firstIn c) log s ≤ rowsIn c
+  pub rows-high-at : (s : ℕ) → s ≤ stampIn c → rowsInLog (firstIn c) log s ≤ rowsIn c
   rows-high-at s h = omega (arith, rows-order s (stampIn c) h (omega arith), last-rows)
 
-  pub first-low : (s : ℕ) → s ≤ stampIn c → firstIn c ≤ rowsAt (firstIn c) log s
+  pub first-low : (s : ℕ) → s ≤ stampIn c → firstIn c ≤ rowsInLog (firstIn c) log s
   first-low s h = rows-order 0 s (omega arith) h
 
 -- ---- a test at every place of a stretch
@@ -212,32 +212,32 @@ change-made changes values rows p f = search made
 module _ (c log changes : List ℕ) where
   -- each change of the record after stamp k
   pub each-change : changesFit c log changes ≡ true → (k p : ℕ) → k < stampIn c → endAt log k ≤ p → p < endAt log (suc k)
-      → ChangeFacts changes (valuesIn c) (rowsAt (firstIn c) log (suc k)) p
+      → ChangeFacts changes (valuesIn c) (rowsInLog (firstIn c) log (suc k)) p
   unfolding changesFit recordChangesFit
   each-change e k p l m n =
-      let rows = rowsAt (firstIn c) log (suc k) in
+      let rows = rowsInLog (firstIn c) log (suc k) in
       change-facts changes (valuesIn c) rows p
       (in-at (changeFits changes (valuesIn c) rows) (endAt log k) (endAt log (suc k))
       (all-at (recordChangesFit c log changes) (stampIn c) e k l) p m n)
 
   pub changes-made : ((k p : ℕ) → k < stampIn c → endAt log k ≤ p → p < endAt log (suc k)
-      → ChangeFacts changes (valuesIn c) (rowsAt (firstIn c) log (suc k)) p)
+      → ChangeFacts changes (valuesIn c) (rowsInLog (firstIn c) log (suc k)) p)
       → changesFit c log changes ≡ true
   unfolding changesFit recordChangesFit
   changes-made h =
       all-of (recordChangesFit c log changes) (stampIn c)
-      (λ k l. let rows = rowsAt (firstIn c) log (suc k) in
+      (λ k l. let rows = rowsInLog (firstIn c) log (suc k) in
       in-of (changeFits changes (valuesIn c) rows) (endAt log k) (endAt log (suc k))
       (λ p m n. change-made changes (valuesIn c) rows p (h k p l m n)))
 
   -- each change of records 1 to s
   pub change-at : recordsFit c log ≡ true → changesFit c log changes ≡ true → (s p : ℕ) → s ≤ stampIn c → p < endAt log s
-      → ChangeFacts changes (valuesIn c) (rowsAt (firstIn c) log s) p
+      → ChangeFacts changes (valuesIn c) (rowsInLog (firstIn c) log s) p
   change-at r e zero p l h = absurd (omega arith)
   change-at r e (suc s) p l h = go (lt-cases p (endAt log s)) (λ k. change-at r e s p (omega arith) k)
     where
-      go : (p < endAt log s) ⊎ (endAt log s ≤ p) → (p < endAt log s → ChangeFacts changes (valuesIn c) (rowsAt (firstIn c) log s) p)
-          → ChangeFacts changes (valuesIn c) (rowsAt (firstIn c) log (suc s)) p
+      go : (p < endAt log s) ⊎ (endAt log s ≤ p) → (p < endAt log s → ChangeFacts changes (valuesIn c) (rowsInLog (firstIn c) log s) p)
+          → ChangeFacts changes (valuesIn c) (rowsInLog (firstIn c) log (suc s)) p
       go (inl k) ih = record { row-low = omega (arith, ih k .row-low, each-record c log r s l .rows-rise); set-low = ih k .set-low }
       go (inr k) ih = each-change e s p l k h
 

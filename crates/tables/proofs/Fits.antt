@@ -14,9 +14,9 @@ use Rattle.bits.proofs.Cases.{eq-cases}
 use Rattle.rules.specs.State.{Change, Log, Version, Chain, Entry, alter, add}
 use Rattle.rules.specs.Log as log
 use Rattle.rules.specs.Lists.{lists}
-use Rattle.rules.proofs.Invariant.{ChangesFit, LogFits, Falls, VectorsFit, Within, EntriesFit, Once}
+use Rattle.rules.proofs.Invariant.{ChangesFit, LogFits, Falls, VectorsFit, Within, EntriesFit, EachOnce}
 use Rattle.tables.specs.declared.session.Session.{Session}
-use Rattle.tables.specs.Cells.{valuesIn, firstIn, stampIn, rowsIn, slotsIn, slotStamp, slotLink, rowsAt, endAt}
+use Rattle.tables.specs.Cells.{valuesIn, firstIn, stampIn, rowsIn, slotsIn, slotStamp, slotLink, rowsInLog, endAt}
 use Rattle.tables.specs.Stretch.{stretch}
 use Rattle.tables.specs.Meaning.{changeAt, recordAt, versionAt, chainFrom, targetOf, entryOf, entryAt}
 use Rattle.tables.specs.Damage.{recordsFit, changesFit, slotsFit}
@@ -54,17 +54,17 @@ changes-fit-at changes C n a b h p l m =
 module _ (c log changes : List ℕ) (p : recordsFit c log ≡ true) (q : changesFit c log changes ≡ true) where
   -- the records from stamp a on
   pub records-fit : (k a : ℕ) → a + k ≡ stampIn c
-      → LogFits (valuesIn c) (rowsAt (firstIn c) log a) (stretch (recordAt log changes) a (stampIn c)) (rowsIn c)
+      → LogFits (valuesIn c) (rowsInLog (firstIn c) log a) (stretch (recordAt log changes) a (stampIn c)) (rowsIn c)
   unfolding recordAt
   records-fit zero a e =
       let z : a ≡ stampIn c = omega arith in
-      rw (stretch-none (recordAt log changes) a (stampIn c) (omega arith)) (ap (rowsAt (firstIn c) log) z ∙ last-rows c log p)
+      rw (stretch-none (recordAt log changes) a (stampIn c) (omega arith)) (ap (rowsInLog (firstIn c) log) z ∙ last-rows c log p)
   records-fit (suc k) a e =
       let l : a < stampIn c = omega arith in
       let r = each-record c log p a l in
       rw (stretch-front (recordAt log changes) a (stampIn c) l) (
         r .rows-rise,
-        changes-fit changes (valuesIn c) (rowsAt (firstIn c) log (suc a)) (endAt log (suc a) - endAt log a) (endAt log a)
+        changes-fit changes (valuesIn c) (rowsInLog (firstIn c) log (suc a)) (endAt log (suc a) - endAt log a) (endAt log a)
             (endAt log (suc a))
             (omega (arith, r .ends-rise)) (λ j m n. each-change c log changes q a j l m n),
         records-fit k (suc a) (omega arith),
@@ -143,10 +143,10 @@ lists-other at to r es h e = go (eq-cases at 65535)
     go (inl q) = rw (entry-add at to q) e
     go (inr n) = rw (entry-alter at to n, ne-eqb at r (h n)) e
 
-once-on : (at to : ℕ) (es : List Entry) → ((at ≡ 65535 → ⊥) → lists es at ≡ false) → Once es → Once (entryOf at to ∷ es)
+once-on : (at to : ℕ) (es : List Entry) → ((at ≡ 65535 → ⊥) → lists es at ≡ false) → EachOnce es → EachOnce (entryOf at to ∷ es)
 once-on at to es h o = go (eq-cases at 65535)
   where
-    go : (at ≡ 65535) ⊎ (at ≡ 65535 → ⊥) → Once (entryOf at to ∷ es)
+    go : (at ≡ 65535) ⊎ (at ≡ 65535 → ⊥) → EachOnce (entryOf at to ∷ es)
     go (inl q) = rw (entry-add at to q) o
     go (inr n) = rw (entry-alter at to n) (h n, o)
 
@@ -172,7 +172,7 @@ module _ (values first stamp : ℕ) (log : List ℕ) (x : Session) (f : OpenFact
       (lists-other (getD (x .at) b 0) (getD (x .to) b 0) (getD (x .at) a 0) (stretch (entryAt x) (suc b) (x .count))
       (λ n q. f .listed-once b a (omega arith) m n (sym q)) (not-listed a l k (suc b) (omega arith) (omega arith)))
 
-  pub entries-once : (k a : ℕ) → a + k ≡ x .count → Once (stretch (entryAt x) a (x .count))
+  pub entries-once : (k a : ℕ) → a + k ≡ x .count → EachOnce (stretch (entryAt x) a (x .count))
   unfolding entryAt
   entries-once zero a e = rw (stretch-none (entryAt x) a (x .count) (omega arith)) tt
   entries-once (suc k) a e =

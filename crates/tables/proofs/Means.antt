@@ -17,7 +17,7 @@ use Rattle.rules.specs.Log.{stampOf, upTo, above, between, changesOf, allChange
 use Rattle.rules.specs.Log as log
 use Rattle.rules.proofs.Changes.{changesOf-snoc}
 use Rattle.tables.specs.declared.session.Session.{Session}
-use Rattle.tables.specs.Cells.{Tables, valuesIn, firstIn, stampIn, rowsIn, slotsIn, changesIn, rowsAt, endAt}
+use Rattle.tables.specs.Cells.{Tables, valuesIn, firstIn, stampIn, rowsIn, slotsIn, changesIn, rowsInLog, endAt}
 use Rattle.tables.specs.Sessions.{sessionAt}
 use Rattle.tables.specs.Stretch.{stretch}
 use Rattle.tables.specs.Meaning.{changeAt, recordAt, chainAt, entryAt, entries, sessionOf, meaning}
@@ -127,7 +127,7 @@ rows-of first (x ∷ xs) zero d h = refl
 rows-of first (x ∷ xs) (suc k) d h = rows-of (x .rows) xs k d (le-of-suc-le-suc h)
 
 pub rowsAt-means : (t : Tables) (s : ℕ) → s ≤ stampIn (t .clock)
-    → log.rowsAt (meaning t .first) (meaning t .log) s ≡ rowsAt (firstIn (t .clock)) (t .log) s
+    → log.rowsAt (meaning t .first) (meaning t .log) s ≡ rowsInLog (firstIn (t .clock)) (t .log) s
 unfolding meaning recordAt
 rowsAt-means t zero h = refl
 rowsAt-means t (suc k) h =

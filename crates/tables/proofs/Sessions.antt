@@ -15,7 +15,7 @@ use Rattle.bits.specs.All.{allBelow}
 use Rattle.bits.proofs.AllLaws.{all-at, all-of}
 use Rattle.rules.specs.Limits.{maxSessions, maxEntries}
 use Rattle.tables.specs.declared.session.Session.{Session}
-use Rattle.tables.specs.Cells.{Tables, valuesIn, firstIn, stampIn, rowsIn, rowsAt}
+use Rattle.tables.specs.Cells.{Tables, valuesIn, firstIn, stampIn, rowsIn, rowsInLog}
 use Rattle.tables.specs.Sessions.{freed, sessionAt}
 use Rattle.tables.specs.Damage.{clockFits, recordsFit, entryZero, allZero, entryFits, onceFits, openFits, sessionFits, sessionsFit}
 use Rattle.tables.proofs.Tests.{told, made, either, or-left, or-right}
@@ -73,7 +73,7 @@ EntryCases values rows at to = ((at < rows) × ((to < values) ⊎ (to ≡ 255)))
 pub record OpenFacts (values first stamp : ℕ) (log : List ℕ) (x : Session) : Type 0 where
   pub live-one : x .live ≡ 1
   pub start-old : x .start .0 ≤ stamp
-  pub rows-then : x .rows .0 ≡ rowsAt first log (x .start .0)
+  pub rows-then : x .rows .0 ≡ rowsInLog first log (x .start .0)
   pub count-low : x .count ≤ 32
   pub entry-cases : (i : ℕ) → i < x .count → EntryCases values (x .rows .0) (getD (x .at) i 0) (getD (x .to) i 0)
   pub listed-once : (i j : ℕ) → i < x .count → j < i → (getD (x .at) i 0 ≡ 65535 → ⊥) → getD (x .at) j 0 ≡ getD (x .at) i 0 → ⊥

@@ -16,7 +16,7 @@ use Rattle.bits.specs.Words.{bitAt, Words}
 use Rattle.bits.proofs.AllLaws.{all-at, all-of}
 use Rattle.bits.specs.Tail.{tailClear}
 use Rattle.bits.proofs.TailLaws.{tail-bits}
-use Rattle.tables.specs.Cells.{valuesIn, firstIn, stampIn, slotsIn, slotValue, slotStamp, slotLink, slotWords, headOf, rowsAt}
+use Rattle.tables.specs.Cells.{valuesIn, firstIn, stampIn, slotsIn, slotValue, slotStamp, slotLink, slotWords, headOf, rowsInLog}
 use Rattle.tables.specs.Damage.{firstSlotFits, laterSlotFits, slotFits, slotsFit, headFits, headsFit, vectorFits, vectorsFit}
 use Rattle.tables.proofs.Tests.{told, made}
 
@@ -180,15 +180,15 @@ words-slotWords words i w = part-words 32 (32 * i) words w
 
 module _ (c log slots words : List ℕ) where
   pub each-vector : vectorsFit c log slots words ≡ true → (i : ℕ) → i < slotsIn c
-      → tailClear (slotWords words i) (rowsAt (firstIn c) log (slotStamp slots i)) ≡ true
+      → tailClear (slotWords words i) (rowsInLog (firstIn c) log (slotStamp slots i)) ≡ true
   unfolding vectorsFit vectorFits
   each-vector e i l = all-at (vectorFits (firstIn c) log slots words) (slotsIn c) e i l
 
   pub vector-bits : vectorsFit c log slots words ≡ true → (i : ℕ) → i < slotsIn c
-      → (r : ℕ) → rowsAt (firstIn c) log (slotStamp slots i) ≤ r → bitAt (slotWords words i) r ≡ false
-  vector-bits e i l = tail-bits (slotWords words i) (rowsAt (firstIn c) log (slotStamp slots i)) (each-vector e i l)
+      → (r : ℕ) → rowsInLog (firstIn c) log (slotStamp slots i) ≤ r → bitAt (slotWords words i) r ≡ false
+  vector-bits e i l = tail-bits (slotWords words i) (rowsInLog (firstIn c) log (slotStamp slots i)) (each-vector e i l)
 
-  pub vectors-made : ((i : ℕ) → i < slotsIn c → tailClear (slotWords words i) (rowsAt (firstIn c) log (slotStamp slots i)) ≡ true)
+  pub vectors-made : ((i : ℕ) → i < slotsIn c → tailClear (slotWords words i) (rowsInLog (firstIn c) log (slotStamp slots i)) ≡ true)
       → vectorsFit c log slots words ≡ true
   unfolding vectorsFit vectorFits
   vectors-made h = all-of (vectorFits (firstIn c) log slots words) (slotsIn c) h

@@ -15,7 +15,7 @@ use Rattle.rules.specs.Step.{seated}
 use Rattle.tables.specs.declared.session.Session.{Session}
 use Rattle.tables.specs.declared.counts.Stamp.{Stamp}
 use Rattle.tables.specs.declared.counts.Row.{Row}
-use Rattle.tables.specs.Cells.{Tables, tables, stampIn, changesIn, slotValue, slotStamp, slotLink, headOf, recordStamp, recordKind, recordRows, recordEnd, rowsAt, endAt}
+use Rattle.tables.specs.Cells.{Tables, tables, stampIn, changesIn, slotValue, slotStamp, slotLink, headOf, recordStamp, recordKind, recordRows, recordEnd, rowsInLog, endAt}
 use Rattle.tables.specs.Sessions.{freed, begun, sessionAt}
 use Rattle.tables.specs.Stretch.{stretch}
 use Rattle.tables.specs.Stores.{putSlot, putHead, putRecord, putChange}
@@ -138,7 +138,7 @@ module _ (log : List ℕ) (k kind rows end : ℕ) where
     end-kept zero h = refl
     end-kept (suc s) h = kept-end s h
 
-    pub rows-kept : (first s : ℕ) → s ≤ k → rowsAt first (putRecord log k kind rows end) s ≡ rowsAt first log s
+    pub rows-kept : (first s : ℕ) → s ≤ k → rowsInLog first (putRecord log k kind rows end) s ≡ rowsInLog first log s
     rows-kept first zero h = refl
     rows-kept first (suc s) h = kept-rows s h
 

@@ -70,9 +70,9 @@ abbrev pub recordEnd : List ℕ → ℕ → ℕ
 recordEnd log k = getD log (1536 + k) 0
 
 -- the row count at stamp s, and where the changes of records 1 to s end
-abbrev pub rowsAt : ℕ → List ℕ → ℕ → ℕ
-rowsAt first log zero = first
-rowsAt first log (suc k) = recordRows log k
+abbrev pub rowsInLog : ℕ → List ℕ → ℕ → ℕ
+rowsInLog first log zero = first
+rowsInLog first log (suc k) = recordRows log k
 
 abbrev pub endAt : List ℕ → ℕ → ℕ
 endAt log zero = 0

@@ -9,7 +9,7 @@ use Rattle.bits.specs.All.{allBelow}
 use Rattle.bits.specs.Tail.{tailClear}
 use Rattle.rules.specs.Limits.{maxValues, maxRows, maxSlots, maxRecords, maxChanges, maxSessions, maxEntries}
 use Rattle.tables.specs.declared.session.Session.{Session}
-use Rattle.tables.specs.Cells.{Tables, valuesIn, firstIn, stampIn, rowsIn, slotsIn, changesIn, slotValue, slotStamp, slotLink, slotWords, headOf, recordStamp, recordKind, rowsAt, endAt, changeRow, changeSet}
+use Rattle.tables.specs.Cells.{Tables, valuesIn, firstIn, stampIn, rowsIn, slotsIn, changesIn, slotValue, slotStamp, slotLink, slotWords, headOf, recordStamp, recordKind, rowsInLog, endAt, changeRow, changeSet}
 use Rattle.tables.specs.Sessions.{sessionAt}
 
 -- a test at every place from a to b
@@ -27,13 +27,13 @@ clockFits c =
 unfoldable pub recordFits : ℕ → List ℕ → ℕ → Bool
 recordFits first log k =
     eqb (recordStamp log k) (k + 1) && (eqb (recordKind log k) 1 || eqb (recordKind log k) 2)
-    && leb (rowsAt first log k) (rowsAt first log (suc k)) && leb (endAt log k) (endAt log (suc k))
+    && leb (rowsInLog first log k) (rowsInLog first log (suc k)) && leb (endAt log k) (endAt log (suc k))
 
 -- "the last end at the change count; row counts .. end at the current one"
 unfoldable pub recordsFit : List ℕ → List ℕ → Bool
 recordsFit c log =
     allBelow (recordFits (firstIn c) log) (stampIn c) && eqb (endAt log (stampIn c)) (changesIn c)
-    && eqb (rowsAt (firstIn c) log (stampIn c)) (rowsIn c)
+    && eqb (rowsInLog (firstIn c) log (stampIn c)) (rowsIn c)
 
 -- "A change's row is below its record's row count and its set is below C."
 unfoldable pub changeFits : List ℕ → ℕ → ℕ → ℕ → Bool
@@ -41,7 +41,7 @@ changeFits changes values rows p = ltb (changeRow changes p) rows && ltb (change
 
 unfoldable pub recordChangesFit : List ℕ → List ℕ → List ℕ → ℕ → Bool
 recordChangesFit c log changes k =
-    allIn (changeFits changes (valuesIn c) (rowsAt (firstIn c) log (suc k))) (endAt log k) (endAt log (suc k))
+    allIn (changeFits changes (valuesIn c) (rowsInLog (firstIn c) log (suc k))) (endAt log k) (endAt log (suc k))
 
 unfoldable pub changesFit : List ℕ → List ℕ → List ℕ → Bool
 changesFit c log changes = allBelow (recordChangesFit c log changes) (stampIn c)
@@ -72,7 +72,7 @@ headsFit c slots heads = allBelow (headFits (slotsIn c) slots heads) (valuesIn c
 
 -- "Vector bits at or above the row count at the slot's stamp are 0."
 unfoldable pub vectorFits : ℕ → List ℕ → List ℕ → List ℕ → ℕ → Bool
-vectorFits first log slots words i = tailClear (slotWords words i) (rowsAt first log (slotStamp slots i))
+vectorFits first log slots words i = tailClear (slotWords words i) (rowsInLog first log (slotStamp slots i))
 
 unfoldable pub vectorsFit : List ℕ → List ℕ → List ℕ → List ℕ → Bool
 vectorsFit c log slots words = allBelow (vectorFits (firstIn c) log slots words) (slotsIn c)
@@ -96,7 +96,7 @@ onceFits x i = eqb (getD (x .at) i 0) 65535 || allBelow (λ j. not (eqb (getD (x
 -- "or open with a start at most the stamp, the row count of that moment, at most 32 entries, .."
 unfoldable pub openFits : ℕ → ℕ → ℕ → List ℕ → Session → Bool
 openFits values first stamp log x =
-    eqb (x .live) 1 && leb (x .start .0) stamp && eqb (x .rows .0) (rowsAt first log (x .start .0)) && leb (x .count) maxEntries
+    eqb (x .live) 1 && leb (x .start .0) stamp && eqb (x .rows .0) (rowsInLog first log (x .start .0)) && leb (x .count) maxEntries
     && allBelow (λ i. entryFits values (x .rows .0) (getD (x .at) i 0) (getD (x .to) i 0)) (x .count) && allBelow (onceFits x) (x .count)
 
 unfoldable pub sessionFits : ℕ → ℕ → ℕ → List ℕ → Session → Bool

@@ -6,7 +6,7 @@ use crate::counts::Value;
 ghost use mathlib.Core.Path.{_≡_};
 ghost use Prim.Native.Nat.{_+_, _<_, _≤_};
 ghost use lib.ListN.{length, set};
-ghost use Rattle.tables.specs.Cells.{slotStamp, slotLink, headOf, endAt, rowsAt, changeRow, changeSet};
+ghost use Rattle.tables.specs.Cells.{slotStamp, slotLink, headOf, endAt, rowsInLog, changeRow, changeSet};
 ghost use Rattle.tables.specs.Stores.{putSlot, putHead, putRecord, putChange};
 
 // The stamp of slot i.
@@ -49,7 +49,7 @@ pub fn end_at(log: &[u32], s: Stamp) -> usize
 // The row count at stamp s.
 pub fn rows_at(log: &[u32], first: Row, s: Stamp) -> Row
     requires { ⌜ (s .0 ≤ 512) × (2048 ≤ length (now log)) ⌝ }
-    ensures { λ r. ⌜ r .0 ≡ rowsAt (first .0) (now (log .entry)) (s .0) ⌝ }
+    ensures { λ r. ⌜ r .0 ≡ rowsInLog (first .0) (now (log .entry)) (s .0) ⌝ }
 {
     let k = bits::wide(s.0);
     if k == 0 {

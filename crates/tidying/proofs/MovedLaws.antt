@@ -23,9 +23,9 @@ use Rattle.tables.specs.Stores.{putChange}
 use Rattle.history.specs.declared.changes.Last.{Last}
 use Rattle.history.specs.Last.{lastOf}
 use Rattle.history.proofs.Kept.{set-kept}
-use Rattle.calls.specs.Stores.{putChanges}
+use Rattle.outcomes.specs.Stores.{putChanges}
 use Rattle.tidying.specs.Tidy.{lessAt, RowsPut, Puttable}
-use Rattle.calls.proofs.StoreLaws.{length-changes, changes-before, changes-append}
+use Rattle.outcomes.proofs.StoreLaws.{length-changes, changes-before, changes-append}
 
 -- ---- no row, one row, more rows
 

@@ -21,16 +21,16 @@ use Rattle.tables.specs.Cells.{stampIn, slotsIn, changesIn, slotStamp, headOf, 
 use Rattle.tables.specs.Clock.{clockIn}
 use Rattle.tables.specs.Meaning.{changeAt}
 use Rattle.tables.proofs.Stretch.{stretch-none, stretch-front}
-use Rattle.calls.specs.declared.enter.Test.the-variants.{Passed, No}
-use Rattle.calls.specs.Enter.{whyOf}
-use Rattle.tidying.specs.Tidy.{touches, touchedIn, staleAt, Datable, tidyTests}
+use Rattle.outcomes.specs.declared.enter.Test.the-variants.{Passed, No}
+use Rattle.outcomes.specs.Enter.{whyOf}
+use Rattle.tidying.specs.Tidy.{hinders, touchedIn, staleAt, Datable, tidyTests}
 
 -- ---- the changes, one after another: what is so far is said of those left
 
 module _ (changes moved : List ℕ) (v to from p : ℕ) (i : touchedIn changes from to moved v ≡ touchedIn changes p to moved v) where
   pub touched-none : to ≤ p → false ≡ touchedIn changes from to moved v
   unfolding touchedIn
-  touched-none h = sym (i ∙ ap (someChange (touches moved v)) (stretch-none (changeAt changes) p to h))
+  touched-none h = sym (i ∙ ap (someChange (hinders moved v)) (stretch-none (changeAt changes) p to h))
 
   module _ (h : p < to) (row q : ℕ) (b : Bool) (r : row ≡ changeRow changes p) (w : q ≡ row) (e : b ≡ bitAt moved q) where
     -- the first of them

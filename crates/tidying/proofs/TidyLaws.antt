@@ -24,23 +24,23 @@ use Rattle.tables.specs.Stores.{putRecord, putMoment, putSlotsUsed, putChangesU
 use Rattle.tables.proofs.Facts.{room-facts, parts, clock-limits, last-end, end-high}
 use Rattle.history.specs.Flips.{flippedIn, RowsLow}
 use Rattle.history.proofs.Ready.{based, rows-low}
-use Rattle.calls.specs.declared.answers.Answer.{Answer}
-use Rattle.calls.specs.declared.answers.Answer.the-variants.{At}
-use Rattle.calls.specs.declared.answers.Answer.the-variants as answer
+use Rattle.outcomes.specs.declared.answers.Answer.{Answer}
+use Rattle.outcomes.specs.declared.answers.Answer.the-variants.{At}
+use Rattle.outcomes.specs.declared.answers.Answer.the-variants as answer
 use Rattle.lent.specs.declared.seats.Seat.{Seat}
-use Rattle.calls.specs.declared.enter.Test as asked
-use Rattle.calls.specs.declared.enter.Test.the-variants.{Passed, No}
-use Rattle.calls.specs.Said.{said, numbers}
-use Rattle.calls.specs.Outcome.{Outcome, outcome, unless}
-use Rattle.calls.specs.Stores.{stores}
-use Rattle.calls.specs.Calls.{own, tidyStores, tidyOf}
-use Rattle.calls.specs.Seats.{untouched, Serves}
-use Rattle.calls.specs.Enter.{whyOf, valuedBy}
+use Rattle.outcomes.specs.declared.enter.Test as asked
+use Rattle.outcomes.specs.declared.enter.Test.the-variants.{Passed, No}
+use Rattle.outcomes.specs.Said.{said, numbers}
+use Rattle.outcomes.specs.Outcome.{Outcome, outcome, unless}
+use Rattle.outcomes.specs.Stores.{stores}
+use Rattle.outcomes.specs.Calls.{own, tidyStores, tidyOf}
+use Rattle.outcomes.specs.Seats.{untouched, Serves}
+use Rattle.outcomes.specs.Enter.{whyOf, valuedBy}
 use Rattle.tidying.specs.declared.tidy.Plan.{Plan}
 use Rattle.tidying.specs.Tidy.{tidyTests, RowsPut, Puttable, Fillable, VersionPut, Tidyable, TidyReady, Plannable, planOf}
 use Rattle.tidying.specs.Tidy.{movedIn, tidyClock, tidyLog, tidiedCells, Tidied, tidyCells, Tidies}
-use Rattle.calls.proofs.Entered.{bare, Valued, valued-passed, valued-goes, valued-shows}
-use Rattle.calls.proofs.Serving.{idle, valued-refused}
+use Rattle.outcomes.proofs.Entered.{bare, Valued, valued-passed, valued-goes, valued-shows}
+use Rattle.outcomes.proofs.Serving.{idle, valued-refused}
 use Rattle.tidying.proofs.TidyMeets.{restTests, tests-meet, cells-meet}
 
 -- ---- the record and the clock

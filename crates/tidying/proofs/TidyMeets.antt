@@ -36,12 +36,12 @@ use Rattle.tables.proofs.Chains.{newest-stamp}
 use Rattle.history.specs.Flips.{flippedIn}
 use Rattle.history.specs.Query.{queriedAt}
 use Rattle.history.proofs.Meets.{flipSet-meets, moves-meets, moved-meets, queried-meets}
-use Rattle.calls.specs.Said.{numbers}
-use Rattle.calls.specs.Outcome.{outcome}
-use Rattle.calls.specs.Stores.{clockCell, slotCell, headCell, stores, wordStores, putChanges}
-use Rattle.calls.specs.Calls.{tidyStores}
-use Rattle.tidying.specs.Tidy.{touches, touchedIn, staleAt, tidyTests, lessAt, movedIn, tidyClock, tidyLog, tidiedCells}
-use Rattle.calls.proofs.StoreLaws.{version-stores, log-stores}
+use Rattle.outcomes.specs.Said.{numbers}
+use Rattle.outcomes.specs.Outcome.{outcome}
+use Rattle.outcomes.specs.Stores.{clockCell, slotCell, headCell, stores, wordStores, putChanges}
+use Rattle.outcomes.specs.Calls.{tidyStores}
+use Rattle.tidying.specs.Tidy.{hinders, touchedIn, staleAt, tidyTests, lessAt, movedIn, tidyClock, tidyLog, tidiedCells}
+use Rattle.outcomes.proofs.StoreLaws.{version-stores, log-stores}
 
 -- ---- small things
 
@@ -108,8 +108,8 @@ module _ (t : Tables) (good : sound t ≡ true) (s : ℕ) (low : s ≤ stampIn (
       let b = changesIn (t .clock) in
       let q : Change → Bool = λ c. moves (meaning t .log) s v (c .row) || bit (c .flips) v in
       let e : b ≡ a + (b - a) = omega (arith, end-high (t .clock) (t .log) (p .records-fit) s low) in
-      ap (λ (k : ℕ). someChange (touches rows v) (stretch f a k)) (last-end (t .clock) (t .log) (p .records-fit))
-      ∙ some-same (touches rows v) q f (b - a) a b e (λ j l m. ap (λ (x : Bool). x || bit (changeSet (t .changes) j) v) (row-moves j m))
+      ap (λ (k : ℕ). someChange (hinders rows v) (stretch f a k)) (last-end (t .clock) (t .log) (p .records-fit))
+      ∙ some-same (hinders rows v) q f (b - a) a b e (λ j l m. ap (λ (x : Bool). x || bit (changeSet (t .changes) j) v) (row-moves j m))
       ∙ ap (someChange q) (sym (above-means t (p .records-fit) s low))
       ∙ some-both (λ c. moves (meaning t .log) s v (c .row)) (λ c. bit (c .flips) v) (changesOf (above (meaning t .log) s))
 

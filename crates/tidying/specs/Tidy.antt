@@ -25,20 +25,20 @@ use Rattle.history.specs.Version.{Headed, Based}
 use Rattle.history.specs.Last.{lastSet}
 use Rattle.history.specs.Flips.{flippedIn, RowsLow}
 use Rattle.history.specs.Query.{queriedAt}
-use Rattle.calls.specs.declared.answers.Answer.{Answer}
+use Rattle.outcomes.specs.declared.answers.Answer.{Answer}
 use Rattle.tidying.specs.declared.tidy.Plan.{Plan}
-use Rattle.calls.specs.Said.{said, numbers}
-use Rattle.calls.specs.Outcome.{Outcome, outcome, unless}
-use Rattle.calls.specs.Stores.{putChanges}
+use Rattle.outcomes.specs.Said.{said, numbers}
+use Rattle.outcomes.specs.Outcome.{Outcome, outcome, unless}
+use Rattle.outcomes.specs.Stores.{putChanges}
 
 -- ---- 14
 
 -- "names a moved row, or .. has a change whose set has v"
-abbrev pub touches : List ℕ → ℕ → Change → Bool
-touches moved v c = bitAt moved (c .row) || bit (c .flips) v
+abbrev pub hinders : List ℕ → ℕ → Change → Bool
+hinders moved v c = bitAt moved (c .row) || bit (c .flips) v
 
 unfoldable pub touchedIn : List ℕ → ℕ → ℕ → List ℕ → ℕ → Bool
-touchedIn changes a b moved v = someChange (touches moved v) (stretch (changeAt changes) a b)
+touchedIn changes a b moved v = someChange (hinders moved v) (stretch (changeAt changes) a b)
 
 -- "the head of v has a stamp above s, or some record above s .."
 unfoldable pub staleAt : List ℕ → List ℕ → List ℕ → List ℕ → ℕ → ℕ → ℕ → List ℕ → Bool

@@ -1,7 +1,7 @@
 // Tidy.
-use calls::Answer;
-use calls::Test;
 use lent::Seat;
+use outcomes::Answer;
+use outcomes::Test;
 use tables::Clock;
 use tables::Refusal;
 use tables::Row;
@@ -21,10 +21,10 @@ ghost use Rattle.tables.specs.Clock.{clockIn, later};
 ghost use Rattle.tables.specs.Stores.{putSlot, putHead};
 ghost use Rattle.history.specs.Query.{queriedAt};
 ghost use Rattle.history.specs.Version.{Headed};
-ghost use Rattle.calls.specs.Said.{said, numbers};
-ghost use Rattle.calls.specs.Calls.{tidyOf};
-ghost use Rattle.calls.specs.Seats.{Serves, untouched};
-ghost use Rattle.calls.specs.Enter.{whyOf};
+ghost use Rattle.outcomes.specs.Said.{said, numbers};
+ghost use Rattle.outcomes.specs.Calls.{tidyOf};
+ghost use Rattle.outcomes.specs.Seats.{Serves, untouched};
+ghost use Rattle.outcomes.specs.Enter.{whyOf};
 ghost use Rattle.tidying.specs.Tidy.{touchedIn, staleAt, Datable, tidyTests, RowsPut, Puttable, Fillable};
 ghost use Rattle.tidying.specs.Tidy.{VersionPut, Tidyable, TidyReady, Plannable, planOf, tidyClock, tidyLog};
 ghost use Rattle.tidying.specs.Tidy.{Tidied, Tidies};
@@ -360,7 +360,7 @@ pub fn tidy_in(
 {
     let s = seat.session;
     let start = s.start;
-    let test = calls::valued(clock, slots, words, heads, log, changes, seat, n, v);
+    let test = outcomes::valued(clock, slots, words, heads, log, changes, seat, n, v);
     match test {
         Test::No(why) => Answer::No(why),
         Test::Passed => tidy_at(clock, slots, words, heads, log, changes, start, v),

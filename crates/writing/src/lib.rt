@@ -1,12 +1,12 @@
 // An answer written as bytes. The functions are on slices alone, and require no more than room. Assumes nothing.
-mod answers;
-mod numbers;
+mod digits;
 mod pairs;
+mod replies;
 mod rows;
 
-pub use answers::put_absent;
-pub use answers::put_end;
-pub use answers::put_no;
-pub use answers::put_ok_one;
-pub use answers::put_ok_two;
+pub use replies::put_absent;
+pub use replies::put_end;
+pub use replies::put_no;
+pub use replies::put_ok_one;
+pub use replies::put_ok_two;
 pub use rows::put_queried;

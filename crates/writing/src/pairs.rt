@@ -1,6 +1,6 @@
 // Numbers written two digits at a time, from a text of the numbers below 100.
 // Assumes nothing.
-use crate::numbers;
+use crate::digits;
 ghost use mathlib.Core.Path.{_≡_};
 ghost use Prim.Native.Nat.{_+_, _<_, _≤_};
 ghost use lib.ListN.{length};
@@ -15,8 +15,8 @@ fn put_pair(out: &mut [u8], at: usize, x: u32, text: &[u8]) -> usize
     let i = 2 * bits::wide(x);
     let tens = text[i];
     let ones = text[i + 1];
-    let next = numbers::put_byte(out, at, tens);
-    numbers::put_byte(out, next, ones)
+    let next = digits::put_byte(out, at, tens);
+    digits::put_byte(out, next, ones)
 }
 
 // A number below 10,000.
@@ -29,11 +29,11 @@ pub fn put_short(out: &mut [u8], at: usize, x: u32, text: &[u8]) -> usize
         return put_pair(out, next, x % 100, text);
     }
     if 100 <= x {
-        let next = numbers::put_byte(out, at, numbers::glyph(x / 100));
+        let next = digits::put_byte(out, at, digits::glyph(x / 100));
         return put_pair(out, next, x % 100, text);
     }
     if 10 <= x {
         return put_pair(out, at, x, text);
     }
-    numbers::put_byte(out, at, numbers::glyph(x))
+    digits::put_byte(out, at, digits::glyph(x))
 }

@@ -1,8 +1,8 @@
 // The answer of query: its rows are printed from the words of the vector.
 // Assumes nothing.
-use crate::answers;
-use crate::numbers;
+use crate::digits;
 use crate::pairs;
+use crate::replies;
 ghost use mathlib.Core.Path.{_≡_};
 ghost use mathlib.Core.Bool.{cond};
 ghost use Prim.Native.Nat.{_+_, _*_, _<_, _≤_};
@@ -17,7 +17,7 @@ fn put_row(out: &mut [u8], at: usize, x: u32, text: &[u8]) -> usize
     requires { ⌜ (x < 10000) × (at + 5 ≤ length (now out)) × (now text ≡ pairs) ⌝ }
     ensures { λ r. ⌜ Wrote (now (out .entry)) at (fieldOf x) (now (out .exit)) r ⌝ }
 {
-    let next = numbers::put_byte(out, at, 32);
+    let next = digits::put_byte(out, at, 32);
     pairs::put_short(out, next, x, text)
 }
 
@@ -65,7 +65,7 @@ pub fn put_queried(out: &mut [u8], flips: u32, due: bool, vector: &[u64]) -> usi
         (35 + 320 * length (now (vector .entry))) ⌝ }
 {
     let n = bits::narrow(bits::count(vector));
-    let next = answers::put_ok_three(out, flips, number_of(due), n);
+    let next = replies::put_ok_three(out, flips, number_of(due), n);
     let text =
         b"0001020304050607080910111213141516171819202122232425262728293031323334353637383940414243444546474849\
           5051525354555657585960616263646566676869707172737475767778798081828384858687888990919293949596979899";

@@ -1,7 +1,7 @@
 -- `commit::commit_in` meets its contract: refused by the shared tests, or the rest of the call decides.
 -- Assumes nothing.
 use borrow.Author.Needs.{needs}
-use Rattle.calls.proofs.OpenLaws.{opened-usable}
+use Rattle.outcomes.proofs.OpenLaws.{opened-usable}
 use Rattle.committing.proofs.CommitCores.{commit-refused, commit-on}
 use Rattle.committing.proofs.commit.commit_in.Statement.{statement}
 use Rattle.committing.proofs.commit.commit_in.Tie as tie

@@ -8,7 +8,7 @@ use native.Mathlib.Omega.{arith}
 use borrow.Author.Needs.{needs}
 use lib.ListN.{length}
 use Rattle.bits.proofs.TabLaws.{Filled, filled-none}
-use Rattle.calls.specs.Calls.{below}
+use Rattle.outcomes.specs.Calls.{below}
 use Rattle.creating.proofs.CreateLaws.{number-more, zero-more, numbered-to}
 use Rattle.creating.proofs.create.numbered.Statement.{statement}
 use Rattle.creating.proofs.create.numbered.Tie as tie

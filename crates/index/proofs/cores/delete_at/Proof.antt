@@ -1,7 +1,7 @@
 -- `cores::delete_at` meets its contract: by `delete-wide`, the call of the narrowed row is the call of the row.
 -- Assumes nothing.
 use mathlib.Core.Path.{_∙_}
-use Rattle.calls.proofs.NarrowLaws.{delete-wide}
+use Rattle.outcomes.proofs.NarrowLaws.{delete-wide}
 use borrow.Author.Needs.{needs}
 use Rattle.index.proofs.cores.delete_at.Statement.{statement}
 use Rattle.index.proofs.cores.delete_at.Tie as tie

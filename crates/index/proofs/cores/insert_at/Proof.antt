@@ -1,7 +1,7 @@
 -- `cores::insert_at` meets its contract.
 -- Assumes nothing.
 use mathlib.Core.Path.{_∙_}
-use Rattle.calls.proofs.NarrowLaws.{insert-wide}
+use Rattle.outcomes.proofs.NarrowLaws.{insert-wide}
 use borrow.Author.Needs.{needs}
 use Rattle.index.proofs.cores.insert_at.Statement.{statement}
 use Rattle.index.proofs.cores.insert_at.Tie as tie

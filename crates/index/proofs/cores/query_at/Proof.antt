@@ -1,7 +1,7 @@
 -- `cores::query_at` meets its contract.
 -- Assumes nothing.
 use mathlib.Core.Path.{_∙_}
-use Rattle.calls.proofs.NarrowLaws.{query-wide}
+use Rattle.outcomes.proofs.NarrowLaws.{query-wide}
 use borrow.Author.Needs.{needs}
 use Rattle.index.proofs.cores.query_at.Statement.{statement}
 use Rattle.index.proofs.cores.query_at.Tie as tie

@@ -1,7 +1,7 @@
 -- `cores::read_at` meets its contract.
 -- Assumes nothing.
 use mathlib.Core.Path.{_∙_}
-use Rattle.calls.proofs.NarrowLaws.{read-wide}
+use Rattle.outcomes.proofs.NarrowLaws.{read-wide}
 use borrow.Author.Needs.{needs}
 use Rattle.index.proofs.cores.read_at.Statement.{statement}
 use Rattle.index.proofs.cores.read_at.Tie as tie

@@ -1,7 +1,7 @@
 -- `cores::tidy_at` meets its contract.
 -- Assumes nothing.
 use mathlib.Core.Path.{_∙_}
-use Rattle.calls.proofs.NarrowLaws.{tidy-wide}
+use Rattle.outcomes.proofs.NarrowLaws.{tidy-wide}
 use borrow.Author.Needs.{needs}
 use Rattle.index.proofs.cores.tidy_at.Statement.{statement}
 use Rattle.index.proofs.cores.tidy_at.Tie as tie

@@ -1,7 +1,7 @@
 -- `cores::update_at` meets its contract.
 -- Assumes nothing.
 use mathlib.Core.Path.{_∙_}
-use Rattle.calls.proofs.NarrowLaws.{update-wide}
+use Rattle.outcomes.proofs.NarrowLaws.{update-wide}
 use borrow.Author.Needs.{needs}
 use Rattle.index.proofs.cores.update_at.Statement.{statement}
 use Rattle.index.proofs.cores.update_at.Tie as tie

@@ -2,7 +2,7 @@
 -- Assumes nothing.
 use borrow.Author.Needs.{needs}
 use Rattle.listing.proofs.ChangeCores.{delete-refused, delete-on}
-use Rattle.calls.proofs.OpenLaws.{opened-usable}
+use Rattle.outcomes.proofs.OpenLaws.{opened-usable}
 use Rattle.listing.proofs.change.delete_in.Statement.{statement}
 use Rattle.listing.proofs.change.delete_in.Tie as tie
 

@@ -1,0 +1,14 @@
+-- `digits::put_four` meets its contract. Assumes nothing.
+use borrow.Author.Needs.{needs}
+use Rattle.writing.proofs.WroteLaws.{wrote-four}
+use Rattle.writing.proofs.digits.put_four.Statement.{statement}
+use Rattle.writing.proofs.digits.put_four.Tie as tie
+
+pub put-four-spec : {M : Type 1} → statement M
+put-four-spec =
+    tie.close
+    (tie.spec
+    (λ c κs. search needs)
+    (λ c κs. search needs)
+    (λ c. search needs)
+    (λ c. search wrote-four))
