@@ -3,6 +3,7 @@
 --     Held-to              what such a call says: the table with the session in its result, put at the place that the call is about, is the
 --                          one that the call's definition leaves.        Created      what create says
 --     place-called         `lent::place`
+-- It has what the proof of each call takes from elsewhere.
 -- Assumes nothing.
 use mathlib.Core.Path.{_≡_}
 use mathlib.Core.List.{List, [], _∷_}
@@ -17,10 +18,11 @@ use Rattle.lent.proofs.place.Symbol as place-def
 use Rattle.lent.proofs.place.Met as place-thm
 use Rattle.outcomes.specs.Said.{said}
 use Rattle.outcomes.specs.Outcome.{outcome}
-pub use Rattle.index.proofs.Calls.{Comes-to}
-use Rattle.index.proofs.Calls.{Call, creates, the-answer, tabs, past}
+pub use Rattle.index.proofs.Calls.{Comes-to, creates, begins, asks, reads, updates, deletes, inserts, commits, tidies, aborts}
+use Rattle.index.proofs.Calls.{Call, the-answer, tabs, past}
 use Rattle.door.specs.Accepts.{accepts}
-pub use Rattle.door.proofs.OneSeat.{Makes, oneSeat, allSeats, told, back}
+pub use Rattle.door.proofs.OneSeat.{allSeats, told, back, create-frees, begin-moves, query-moves, read-moves, update-moves}
+pub use Rattle.door.proofs.OneSeat.{delete-moves, insert-moves, commit-moves, tidy-moves, abort-moves}
 use Rattle.door.proofs.Doors.{the-held, reals, doors, lists-on, ends-on, at-of}
 pub use Rattle.door.proofs.Doors.{here, next-to}
 use Rattle.door.proofs.Walk.{looks-at, Looks}

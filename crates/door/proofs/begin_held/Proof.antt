@@ -1,8 +1,6 @@
 -- `begin_held` meets its contract: it is an instance of the walk of the doors, at the index's `begin`.
 -- Assumes nothing.
-use Rattle.door.proofs.Calls.{held-call, tables-in-front, here, Comes-to, unseen, Held-to, back, place-called}
-use Rattle.door.proofs.OneSeat.{begin-moves}
-use Rattle.index.proofs.Calls.{begins}
+use Rattle.door.proofs.Calls.{held-call, tables-in-front, here, Comes-to, unseen, Held-to, back, place-called, begins, begin-moves}
 use Rattle.index.proofs.begin.Symbol as call-def
 use Rattle.index.proofs.begin.Met as call-thm
 use Rattle.door.proofs.begin_held.Key.{name as #door·begin-held}

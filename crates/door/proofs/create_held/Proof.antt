@@ -1,8 +1,6 @@
 -- `create_held` meets its contract: it is an instance of the walk of the doors, at the index's `create`.
 -- Assumes nothing.
-use Rattle.door.proofs.Calls.{only-call, tables-in-front, Comes-to, unseen, Created, told, allSeats}
-use Rattle.door.proofs.OneSeat.{create-frees}
-use Rattle.index.proofs.Calls.{creates}
+use Rattle.door.proofs.Calls.{only-call, tables-in-front, Comes-to, unseen, Created, told, allSeats, creates, create-frees}
 use Rattle.index.proofs.create.Symbol as call-def
 use Rattle.index.proofs.create.Met as call-thm
 use Rattle.door.proofs.create_held.Key.{name as #door·create-held}

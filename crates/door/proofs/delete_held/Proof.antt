@@ -1,8 +1,6 @@
 -- `delete_held` meets its contract: it is an instance of the walk of the doors, at the index's `delete`.
 -- Assumes nothing.
-use Rattle.door.proofs.Calls.{held-call, tables-in-front, here, Comes-to, unseen, Held-to, back, place-called}
-use Rattle.door.proofs.OneSeat.{delete-moves}
-use Rattle.index.proofs.Calls.{deletes}
+use Rattle.door.proofs.Calls.{held-call, tables-in-front, here, Comes-to, unseen, Held-to, back, place-called, deletes, delete-moves}
 use Rattle.index.proofs.delete.Symbol as call-def
 use Rattle.index.proofs.delete.Met as call-thm
 use Rattle.door.proofs.delete_held.Key.{name as #door·delete-held}

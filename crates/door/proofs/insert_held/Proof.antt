@@ -1,8 +1,6 @@
 -- `insert_held` meets its contract: it is an instance of the walk of the doors, at the index's `insert`.
 -- Assumes nothing.
-use Rattle.door.proofs.Calls.{held-call, tables-in-front, here, Comes-to, unseen, Held-to, back, place-called}
-use Rattle.door.proofs.OneSeat.{insert-moves}
-use Rattle.index.proofs.Calls.{inserts}
+use Rattle.door.proofs.Calls.{held-call, tables-in-front, here, Comes-to, unseen, Held-to, back, place-called, inserts, insert-moves}
 use Rattle.index.proofs.insert.Symbol as call-def
 use Rattle.index.proofs.insert.Met as call-thm
 use Rattle.door.proofs.insert_held.Key.{name as #door·insert-held}

@@ -1,8 +1,7 @@
 -- `query_held` meets its contract: it is an instance of the walk of the doors, at the index's `query`.
 -- Assumes nothing.
-use Rattle.door.proofs.Calls.{held-call, tables-in-front, here, next-to, Comes-to, unseen, Held-to, back, place-called}
-use Rattle.door.proofs.OneSeat.{query-moves}
-use Rattle.index.proofs.Calls.{asks}
+use Rattle.door.proofs.Calls.{held-call, tables-in-front, here, next-to, Comes-to, unseen, Held-to, back, place-called, asks}
+use Rattle.door.proofs.Calls.{query-moves}
 use Rattle.index.proofs.query.Symbol as call-def
 use Rattle.index.proofs.query.Met as call-thm
 use Rattle.door.proofs.query_held.Key.{name as #door·query-held}
