@@ -39,7 +39,7 @@ use denote.Steps.{nothing}
 use Rattle.lent.proofs.Data.{Data}
 use Rattle.lent.proofs.Rules.{from-at, Nearer, nearer-wf}
 use Rattle.lent.proofs.Lends.{slice-at}
-use Rattle.lent.proofs.Locals.{Tree, bare, leaf, both, Locs, Vals, row, Rooms, Filled, env, forget-all}
+use Rattle.lent.proofs.Locals.{Tree, bare, slot, leaf, both, Locs, Vals, row, Rooms, Filled, env, forget-all}
 use Rattle.lent.proofs.Slices.{Param, seen, Site, own, Sites, Lists, Ends, ends, Longs, Toks, Owned, Knowns, lives, parts, many, ty}
 use Rattle.lent.proofs.Slices.{cells}
 use Rattle.lent.proofs.Slices.{holds}
@@ -54,12 +54,12 @@ span a (suc n) = a ∷ span (suc a) n
 module _ {M : Type 1} {𝓤 : URA M} where
   abbrev pub laid : (t : Tree) → Locs t → Vals t → List (Item 𝓤) → List (Item 𝓤)
   laid bare bs vs Γ = Γ
-  laid (leaf τ) bs vs Γ = ‵ (fat fullShare τ bs zero vs) ∷ ‵ (fdies τ bs) ∷ Γ
+  laid (slot h τ) bs vs Γ = ‵ (fat fullShare τ bs zero vs) ∷ ‵ (fdies τ bs) ∷ Γ
   laid (both a b) bs vs Γ = laid a (bs .0) (vs .0) (laid b (bs .1) (vs .1) Γ)
 
   abbrev pub roomy : (t : Tree) → Locs t → List (Item 𝓤) → List (Item 𝓤)
   roomy bare bs Γ = Γ
-  roomy (leaf τ) bs Γ = ‵ (froom τ bs zero) ∷ ‵ (fdies τ bs) ∷ Γ
+  roomy (slot h τ) bs Γ = ‵ (froom τ bs zero) ∷ ‵ (fdies τ bs) ∷ Γ
   roomy (both a b) bs Γ = roomy a (bs .0) (roomy b (bs .1) Γ)
 
 -- ---- the same context, in groups and laid out
@@ -77,14 +77,14 @@ module _ {M : Type 1} {𝓤 : URA M} {H : Heap 𝓤} {A : Atoms 𝓤} {W : Given
 
   all-laid : (t : Tree) (bs : Locs t) (vs : Vals t) (Γ : List (Item 𝓤)) → Same W (‵ (Filled t bs vs) ∷ Γ) (laid t bs vs Γ)
   all-laid bare bs vs Γ = record { there = qed W (‵ ftrue ∷ Γ) ∵ drop ! $ done !; back = qed W Γ ∵ nothing ! $ done ! }
-  all-laid (leaf τ) bs vs Γ = two (fat fullShare τ bs zero vs) (fdies τ bs) Γ
+  all-laid (slot h τ) bs vs Γ = two (fat fullShare τ bs zero vs) (fdies τ bs) Γ
   all-laid (both a b) bs vs Γ =
       same-then (two (Filled a (bs .0) (vs .0)) (Filled b (bs .1) (vs .1)) Γ)
       (same-then (under (‵ (Filled a (bs .0) (vs .0))) (all-laid b (bs .1) (vs .1) Γ)) (all-laid a (bs .0) (vs .0) _))
 
   all-roomy : (t : Tree) (bs : Locs t) (Γ : List (Item 𝓤)) → Same W (‵ (Rooms t bs) ∷ Γ) (roomy t bs Γ)
   all-roomy bare bs Γ = record { there = qed W (‵ ftrue ∷ Γ) ∵ drop ! $ done !; back = qed W Γ ∵ nothing ! $ done ! }
-  all-roomy (leaf τ) bs Γ = two (froom τ bs zero) (fdies τ bs) Γ
+  all-roomy (slot h τ) bs Γ = two (froom τ bs zero) (fdies τ bs) Γ
   all-roomy (both a b) bs Γ =
       same-then (two (Rooms a (bs .0)) (Rooms b (bs .1)) Γ)
       (same-then (under (‵ (Rooms a (bs .0))) (all-roomy b (bs .1) Γ)) (all-roomy a (bs .0) _))
