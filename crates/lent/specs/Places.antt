@@ -81,10 +81,6 @@ put-nowhere ts i s h =
     (and-no (ltb i 16) (ltb i (length ts)) h)
 
 -- ---- what a caller knows
-pub seat-near : (ts : List Session) (n : ℕ) → n < 16 → seatAt ts n ≡ sessionAt ts n
-unfolding seatAt
-seat-near ts n l = ap (λ (t : Bool). cond t (sessionAt ts n) freed) (lt-ltb n 16 l)
-
 put-near : (ts : List Session) (i : ℕ) (s : Session) → i < 16 → putAt ts i s ≡ set ts i s
 unfolding putAt
 put-near ts i s l = ap (λ (t : Bool). cond t (set ts i s) ts) (lt-ltb i 16 l)

@@ -85,7 +85,7 @@ pub fn free_all(t: &mut [Session], yes: bool)
 }
 
 // How many places a loop goes through: all 16, or none.
-fn limit(yes: bool) -> u64
+fn limit(yes: bool) -> usize
     ensures { λ r. ⌜ r ≡ cond yes 16 0 ⌝ }
 {
     if yes {
@@ -110,8 +110,7 @@ pub fn all_fit(t: &[Session], log: &[u32], c: Clock) -> bool
     let end = limit(ok);
     let mut i = 0;
     while i < end {
-        let s = place(t, i);
-        ok = fits_too(log, c, s, ok);
+        ok = fits_too(log, c, t[i], ok);
         i += 1;
     }
     ok
