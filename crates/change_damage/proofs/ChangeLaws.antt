@@ -3,22 +3,22 @@
 use mathlib.Core.Path.{_≡_, sym, ap, ap₂, _∙_}
 use mathlib.Core.Bool.{Bool, true, false, not, _&&_}
 use mathlib.Core.List.{List}
-use mathlib.Core.Logic.{_⊎_, inl, inr}
-use Prim.Native.Nat.{ℕ, zero, suc, _+_, _^_, _≤_, _<_}
+use mathlib.Core.Logic.{_⊎_, inl, inr, ⊎-elim}
+use Prim.Native.Nat.{ℕ, zero, suc, _+_, _-_, _*_, _/_, _^_, _≤_, _<_}
 use native.Mathlib.Nat.{eq-or-lt-of-le, le-of-suc-le-suc}
 use native.Mathlib.Numerals.{add-one}
 use native.Mathlib.Omega.{arith}
 use borrow.Author.Tests.{lt-ltb, ltb-true, not-true, not-false}
 use Rattle.bits.specs.All.{allBelow}
 use Rattle.bits.proofs.AllLaws.{all-at, all-of}
-use Rattle.bits.proofs.Cases.{same-truth}
+use Rattle.bits.proofs.Cases.{lt-cases, same-truth}
 use Rattle.bits.specs.Sets.{setBelow}
 use Rattle.bits.proofs.SetLaws.{below-lt, lt-below}
 use Rattle.tables.specs.declared.clock.Clock.{Clock}
 use Rattle.tables.specs.Cells.{valuesIn, stampIn, changesIn, recordRows, recordEnd, endAt, changeRow, changeSet}
 use Rattle.tables.specs.Clock.{clockIn}
 use Rattle.tables.specs.Damage.{allIn, clockFits, recordsFit, changesFit}
-use Rattle.tables.proofs.Tests.{both, and-both}
+use Rattle.tables.proofs.Tests.{both, and-both, found-true}
 use Rattle.tables.proofs.Facts.{in-at, in-of, clock-limits, end-next, ends-order, rows-order, end-high, each-change, change-now, changes-made}
 use Rattle.change_damage.specs.Parts.{Gathered, rowBelow, recordRowsFit, Alike, Rising}
 use Rattle.tables.proofs.Fold.{in-none, in-join, in-one}
@@ -31,6 +31,14 @@ row-lt changes rows p = ltb-true (changeRow changes p) rows
 lt-row : (changes : List ℕ) (rows p : ℕ) → changeRow changes p < rows → rowBelow changes rows p ≡ true
 unfolding rowBelow
 lt-row changes rows p = lt-ltb (changeRow changes p) rows
+
+-- a stretch that starts early, at changes that are known to have such rows
+pub early-start : (changes : List ℕ) (rows from to : ℕ) (t : Bool) → allIn (rowBelow changes rows) 0 from ≡ true → from ≤ to
+    → t ≡ allIn (rowBelow changes rows) (to - (to - from + 7) / 8 * 8) to → t ≡ allIn (rowBelow changes rows) from to
+early-start changes rows from to t e l q =
+    q ∙ in-join (rowBelow changes rows) (to - (to - from + 7) / 8 * 8) from to (omega arith) l
+    ∙ ap (λ (b : Bool). b && allIn (rowBelow changes rows) from to) (in-of (rowBelow changes rows) (to - (to - from + 7) / 8 * 8) from
+    (λ j m n. in-at (rowBelow changes rows) 0 from e j (omega arith) n))
 
 module _ (log changes : List ℕ) (k : ℕ) where
   record-at : recordRowsFit log changes k ≡ true → (p : ℕ) → endAt log k ≤ p → p < recordEnd log k → changeRow changes p < recordRows log k
@@ -53,6 +61,14 @@ module _ (log changes : List ℕ) (k : ℕ) where
       ∙ ap (λ (x : ℕ). allIn (rowBelow changes x) (endAt log k) (recordEnd log k)) e
 
 -- ---- records of one row count
+
+-- the first `from` changes have rows below the row count of each of the records k + 1 to n
+unfoldable pub Passed : List ℕ → List ℕ → ℕ → ℕ → ℕ → Type 0
+Passed log changes from k n = (p j : ℕ) → p < from → k ≤ j → j < n → changeRow changes p < recordRows log j
+
+pub none-passed : (log changes : List ℕ) (k n : ℕ) → Passed log changes 0 k n
+unfolding Passed
+none-passed log changes k n p j h = absurd (omega arith)
 
 module _ (log changes : List ℕ) (n : ℕ) (r : Rising log n) where
   abbrev fits : ℕ → ℕ → Bool
@@ -88,6 +104,25 @@ module _ (log changes : List ℕ) (n : ℕ) (r : Rising log n) where
         in-join (recordRowsFit log changes) k (suc e) n (omega (arith, a .not-before)) (a .in-use)
         ∙ ap₂ (λ (x y : Bool). x && y) (together (recordRows log e) k (suc e) (omega (arith, a .not-before)) (a .in-use) one-count)
         (ap (λ (x : ℕ). fits x n) (sym (add-one e)))
+
+    -- "row counts never fall": what passed at a record passes at the later ones
+    pub passed-below : (from : ℕ) → Passed log changes from k n → allIn (rowBelow changes (recordRows log e)) 0 from ≡ true
+    unfolding Passed
+    passed-below from h =
+        in-of (rowBelow changes (recordRows log e)) 0 from
+        (λ p m l. lt-row changes (recordRows log e) p (h p e l (a .not-before) (a .in-use)))
+
+    pub passed-more : (from to : ℕ) (t : Bool) → Passed log changes from k n → t ≡ allIn (rowBelow changes (recordRows log e)) from to
+        → not t ≡ false → Passed log changes to (e + 1) n
+    unfolding Passed
+    passed-more from to t h q m p j l x y =
+        ⊎-elim (λ (z : p < from). h p j z (omega (arith, a .not-before)) y)
+        (λ (z : from ≤ p). omega (
+          arith,
+          r .rows-rise e j (omega arith) y,
+          row-lt changes (recordRows log e) p
+              (in-at (rowBelow changes (recordRows log e)) from to (found-true t _ q m) p z l),
+        )) (lt-cases p from)
 
     -- with the numbers that the code copied
     module _ (from to : ℕ) (w t : Bool) (x : from ≡ endAt log k) (y : to ≡ recordEnd log e) (z : w ≡ fits k n)

@@ -39,15 +39,22 @@ fn rows_below_each(changes: &[u32], from: usize, to: usize, rows: Row) -> bool
     ok
 }
 
-// Whether the changes from `from` to `to` have rows below `rows`. All are below 2,048 exactly if their bits together are.
+// Whether the changes from `from` to `to` have rows below `rows`, as those before `from` have. All are below 2,048 exactly if their
+// bits together are. A longer stretch is made a multiple of eight by some of those before it: processors compare eight at once.
 fn rows_below(changes: &[u32], from: usize, to: usize, rows: Row) -> bool
-    requires { ⌜ (from ≤ to) × (to ≤ 2048) × (4096 ≤ length (now changes)) ⌝ }
+    requires { ⌜ (from ≤ to) × (to ≤ 2048) × (4096 ≤ length (now changes)) × (allIn (rowBelow (now changes) (rows .0)) 0 from ≡ true) ⌝ }
     ensures { λ r. ⌜ r ≡ allIn (rowBelow (now (changes .entry)) (rows .0)) from to ⌝ }
 {
     if rows.0 == 2048 {
         return gathered(changes, from, to - from) < 2048;
     }
-    rows_below_each(changes, from, to, rows)
+    if to - from < 8 {
+        return rows_below_each(changes, from, to, rows);
+    }
+    if from < 8 {
+        return rows_below_each(changes, from, to, rows);
+    }
+    rows_below_each(changes, to - (to - from + 7) / 8 * 8, to, rows)
 }
 
 // Of the records k + 1, k + 1 + step, .. up to n, the last before the row count changes.
