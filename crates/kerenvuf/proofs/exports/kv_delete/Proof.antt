@@ -14,4 +14,4 @@ kv-delete-spec 𝓤 H 𝓜 𝓖 𝓡 =
     then (on-tables watched (deletes .more)) the-answer the-numbers (Comes-to watched deletes) Numbered (Seen-of deletes)
     (λ y d b h r z e. encodes (tabs b (past b .0)) (deletes .buffers (past b .1)) d _ r h e) 𝓤 H 𝓜 𝓖 𝓡 code.env #kerenvuf·kv-delete
     (record { name = call-def.name; routine = call-def.routine; met = call-thm.met }) numbering
-    (code.unfolded 𝓤 H 𝓜 𝓡) code.calls-index·delete code.calls-kerenvuf·answers·numbers
+    (code.unfolded 𝓤 H 𝓜 𝓡) code.calls-index·delete code.calls-kerenvuf·in-numbers·numbers

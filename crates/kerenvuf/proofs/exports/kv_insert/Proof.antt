@@ -14,4 +14,4 @@ kv-insert-spec 𝓤 H 𝓜 𝓖 𝓡 =
     then (on-tables watched (inserts .more)) the-answer the-numbers (Comes-to watched inserts) Numbered (Seen-of inserts)
     (λ y d b h r z e. encodes (tabs b (past b .0)) (inserts .buffers (past b .1)) d _ r h e) 𝓤 H 𝓜 𝓖 𝓡 code.env #kerenvuf·kv-insert
     (record { name = call-def.name; routine = call-def.routine; met = call-thm.met }) numbering
-    (code.unfolded 𝓤 H 𝓜 𝓡) code.calls-index·insert code.calls-kerenvuf·answers·numbers
+    (code.unfolded 𝓤 H 𝓜 𝓡) code.calls-index·insert code.calls-kerenvuf·in-numbers·numbers

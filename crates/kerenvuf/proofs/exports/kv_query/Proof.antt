@@ -14,4 +14,4 @@ kv-query-spec 𝓤 H 𝓜 𝓖 𝓡 =
     then (on-tables watched (asks .more)) the-answer the-numbers (Comes-to watched asks) Numbered (Seen-of asks)
     (λ y d b h r z e. encodes (tabs b (past b .0)) (asks .buffers (past b .1)) d _ r h e) 𝓤 H 𝓜 𝓖 𝓡 code.env #kerenvuf·kv-query
     (record { name = call-def.name; routine = call-def.routine; met = call-thm.met }) numbering
-    (code.unfolded 𝓤 H 𝓜 𝓡) code.calls-index·query code.calls-kerenvuf·answers·numbers
+    (code.unfolded 𝓤 H 𝓜 𝓡) code.calls-index·query code.calls-kerenvuf·in-numbers·numbers
