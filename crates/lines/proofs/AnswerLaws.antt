@@ -44,7 +44,8 @@ picked-short ws s (some i) = at-most (ltb i 96 && leb (32 * i + 32) (length ws))
 pub queried-few : (ws s vector : List ℕ) (place : Place) → vector ≡ pickedFrom ws s (placeOf place) → length vector ≤ 32
 queried-few ws s vector place e = omega (arith, ap length e, picked-short ws s (placeOf place))
 
-pub queried-fits : (ws s vector out : List ℕ) (place : Place) → vector ≡ pickedFrom ws s (placeOf place) → 10275 ≤ length out → 35 + 320 * length vector ≤ length out
+pub queried-fits : (ws s vector out : List ℕ) (place : Place) → vector ≡ pickedFrom ws s (placeOf place)
+    → 10275 ≤ length out → 35 + 320 * length vector ≤ length out
 queried-fits ws s vector out place e l = omega (arith, queried-few ws s vector place e, l)
 
 -- ---- read
@@ -70,7 +71,8 @@ module _ (ws s d e : List ℕ) (r : ℕ) (answer : core.Answer) where
       let b : Answered d a e r 10275 = record { wrote = h .wrote; short = omega (arith, h .short, l) } in
       rw (p, q) b
 
-  pub put-refused : (why : Refusal) (n : ℕ) → answer ≡ No why → n ≡ numberOf why → Answered d (refused n) e r 13 → Answered d (heardFrom ws s (said answer)) e r 10275
+  pub put-refused : (why : Refusal) (n : ℕ) → answer ≡ No why → n ≡ numberOf why → Answered d (refused n) e r 13
+      → Answered d (heardFrom ws s (said answer)) e r 10275
   unfolding heardFrom
   put-refused why n p q h = heard-as (No why) (refused n) 13 p (ap refused (sym q)) h (omega arith)
 
@@ -78,23 +80,28 @@ module _ (ws s d e : List ℕ) (r : ℕ) (answer : core.Answer) where
   unfolding heardFrom
   put-count n p h = heard-as (Count n) (ok (n ∷ [])) 13 p refl h (omega arith)
 
-  pub put-at : (t : Stamp) (n : Row) → answer ≡ At t n → Answered d (ok (t .0 ∷ n .0 ∷ [])) e r 24 → Answered d (heardFrom ws s (said answer)) e r 10275
+  pub put-at : (t : Stamp) (n : Row) → answer ≡ At t n → Answered d (ok (t .0 ∷ n .0 ∷ [])) e r 24
+      → Answered d (heardFrom ws s (said answer)) e r 10275
   unfolding heardFrom
   put-at t n p h = heard-as (At t n) (ok (t .0 ∷ n .0 ∷ [])) 24 p refl h (omega arith)
 
-  pub put-read : (x : Standing) → answer ≡ Read x → Answered d (value (standingOf x)) e r 13 → Answered d (heardFrom ws s (said answer)) e r 10275
+  pub put-read : (x : Standing) → answer ≡ Read x → Answered d (value (standingOf x)) e r 13
+      → Answered d (heardFrom ws s (said answer)) e r 10275
   unfolding heardFrom
   put-read x p h = heard-as (Read x) (value (standingOf x)) 13 p refl h (omega arith)
 
-  pub put-listed : (flips : ℕ) (due : Bool) (place : Place) (vector : List ℕ) → answer ≡ Listed flips due place → vector ≡ pickedFrom ws s (placeOf place)
+  pub put-listed : (flips : ℕ) (due : Bool) (place : Place) (vector : List ℕ) → answer ≡ Listed flips due place
+      → vector ≡ pickedFrom ws s (placeOf place)
       → Answered d (listed flips due (rowsOf vector)) e r (35 + 320 * length vector) → Answered d (heardFrom ws s (said answer)) e r 10275
   unfolding heardFrom
   put-listed flips due place vector p q h =
-      heard-as (Listed flips due place) (listed flips due (rowsOf vector)) (35 + 320 * length vector) p (ap (λ (v : List ℕ). listed flips due (rowsOf v)) (sym q)) h
+      heard-as (Listed flips due place) (listed flips due (rowsOf vector)) (35 + 320 * length vector) p
+      (ap (λ (v : List ℕ). listed flips due (rowsOf v)) (sym q)) h
       (omega (arith, ap length q, picked-short ws s (placeOf place)))
 
 -- an answer and its newline
-pub put-answered : (ws s d e f : List ℕ) (n r : ℕ) (answer : core.Answer) → Answered d (heardFrom ws s (said answer)) e n 10275 → Wrote e n (newline ∷ []) f r
+pub put-answered : (ws s d e f : List ℕ) (n r : ℕ) (answer : core.Answer) → Answered d (heardFrom ws s (said answer)) e n 10275
+    → Wrote e n (newline ∷ []) f r
     → PutLine d (heardFrom ws s (said answer)) f r
 unfolding answerLine
 put-answered ws s d e f n r answer a w =

@@ -7,7 +7,7 @@ use Prim.Native.Nat.{ℕ, _≤_, _<_}
 use native.Mathlib.Omega.{arith}
 use borrow.Author.Tests.{le-leb, lt-leb}
 use lib.Dec.{leb}
-use lib.ListN.{length, getD}
+use lib.ListN.{length}
 use lib.Seq.{sets}
 use Rattle.tables.specs.declared.session.Session.{Session}
 use Rattle.tables.specs.Cells.{Tables, tables}
@@ -18,10 +18,10 @@ use Rattle.text.specs.Parse.{parse, longestLine}
 use Rattle.text.specs.Asked.{ask, askedBy, asked, lineBytes, Requested}
 use Rattle.outcomes.specs.Said.{Said}
 use Rattle.lines.specs.declared.sessions.Left.{Left}
-use Rattle.lines.specs.Left.{left, leaves}
+use Rattle.lines.specs.Left.{leaves}
 use Rattle.lines.specs.Turn.{Turn, turnOf, heardFrom, Turned}
 use Rattle.lines.specs.Line.{LineOutcome, lineOutcome, enough, answerLine, PutLine, written, lineOf}
-use Rattle.lines.proofs.TurnLaws.{first-stands}
+use Rattle.lines.proofs.TurnLaws.{all-stand}
 
 -- a line that is too long is not read
 pub long-line : (line column : List ℕ) → 8192 < length line → Requested line column column (ask word.Unknown 0 0 0)
@@ -46,7 +46,8 @@ line-done t t′ scratch scratch′ line column column′ out out′ wish a len 
 -- ---- room
 
 module _ (t : Tables) (scratch column out line : List ℕ) where
-  pub line-read : (o : LineOutcome) → 4096 ≤ length column → 10276 ≤ length out → o ≡ written (turnOf t scratch (parse line)) line column out → o ≡ lineOf t scratch column out line
+  pub line-read : (o : LineOutcome) → 4096 ≤ length column → 10276 ≤ length out
+      → o ≡ written (turnOf t scratch (parse line)) line column out → o ≡ lineOf t scratch column out line
   unfolding lineOf enough
   line-read o c l e =
       e ∙ ap (λ (b : Bool). cond b (written (turnOf t scratch (parse line)) line column out) (lineOutcome t scratch column out 0))
@@ -60,18 +61,20 @@ module _ (t : Tables) (scratch column out line : List ℕ) where
   short-column l = short (ap (λ (b : Bool). b && leb 10276 (length out)) (lt-leb 4096 (length column) l))
 
   pub short-out : length out < 10276 → lineOutcome t scratch column out 0 ≡ lineOf t scratch column out line
-  short-out l = short (ap (λ (b : Bool). leb 4096 (length column) && b) (lt-leb 10276 (length out) l) ∙ and-false (leb 4096 (length column)))
+  short-out l = short (ap (λ (b : Bool). leb 4096 (length column) && b) (lt-leb 10276 (length out) l)
+      ∙ and-false (leb 4096 (length column)))
 
 -- nothing is done: no session changes
-module _ (clock slots words heads log changes scratch column out line : List ℕ) (ts : List Session) (d : Session) (l : Left) (len : ℕ)
-    (e : len ≡ 0) (f : l ≡ left 0 (getD ts 0 d) false) where
+module _ (clock slots words heads log changes scratch column out line : List ℕ) (ts : List Session) (l : Left) (len : ℕ)
+    (e : len ≡ 0) (p : l .put ≡ false) (z : l .anew ≡ false) where
   abbrev lent : List Session → Tables
   lent = tables clock slots words heads log changes
 
   none-done : lineOutcome (lent (leaves ts l)) scratch column out len ≡ lineOutcome (lent ts) scratch column out 0
-  none-done = ap₂ (λ (us : List Session) (n : ℕ). lineOutcome (lent us) scratch column out n) (ap (leaves ts) f ∙ first-stands ts d) e
+  none-done = ap₂ (λ (us : List Session) (n : ℕ). lineOutcome (lent us) scratch column out n) (all-stand ts l p z) e
 
-  pub nothing-column : length column < 4096 → lineOutcome (lent (leaves ts l)) scratch column out len ≡ lineOf (lent ts) scratch column out line
+  pub nothing-column : length column < 4096
+      → lineOutcome (lent (leaves ts l)) scratch column out len ≡ lineOf (lent ts) scratch column out line
   nothing-column h = none-done ∙ short-column (lent ts) scratch column out line h
 
   pub nothing-out : length out < 10276 → lineOutcome (lent (leaves ts l)) scratch column out len ≡ lineOf (lent ts) scratch column out line

@@ -9,8 +9,8 @@ use Prim.Native.Nat.{ℕ, _<_, _≤_}
 use native.Mathlib.Omega.{arith}
 use borrow.Author.Tests.{eq-eqb, ne-eqb, lt-ltb, le-ltb}
 use lib.Dec.{eqb, ltb}
-use lib.ListN.{length, take, getD, set, replicate, length-replicate, drop-of-length-le}
-use lib.Seq.{length-take-le, set-getD, sets-eq}
+use lib.ListN.{length, take, set, replicate, length-replicate, drop-of-length-le}
+use lib.Seq.{length-take-le, sets-eq}
 use Rattle.bits.proofs.Cases.{eq-cases}
 use Rattle.bits.specs.Column.{valueOf}
 use Rattle.bits.specs.Tab.{over}
@@ -45,7 +45,7 @@ use Rattle.follow.specs.Heard.{heard}
 use Rattle.demands.specs.Asks.{Ask, create, begin, query, read, update, delete, insert, commit, tidy, abort, comesTo}
 use Rattle.door.specs.Accepts.{accepts}
 use Rattle.lines.specs.declared.sessions.Left.{Left}
-use Rattle.lines.specs.Left.{left, leaves, leftAt}
+use Rattle.lines.specs.Left.{leaves, left, leftAt}
 use Rattle.lines.specs.Turn.{turn, byteFor, askWith, scratchAfter, made, turnOf, heardFrom, Turned}
 
 -- ---- what a caller hears of a call is what is heard where its words and the program's scratch stand
@@ -79,7 +79,8 @@ begin-sure : (t : Tables) (n : ℕ) (x : Session) → Sure (beginning t n x)
 unfolding beginning
 begin-sure t n x =
     sure-either (eqb (x .live) 1) (outcome t [] (numbers (x .start .0 ∷ x .rows .0 ∷ [])))
-    (outcome (reseated t n (begun (clockIn (t .clock) .stamp) (clockIn (t .clock) .rows))) [] (numbers (stampIn (t .clock) ∷ rowsIn (t .clock) ∷ [])))
+    (outcome (reseated t n (begun (clockIn (t .clock) .stamp) (clockIn (t .clock) .rows))) []
+    (numbers (stampIn (t .clock) ∷ rowsIn (t .clock) ∷ [])))
     (sure-numbers _ _) (sure-numbers _ _)
 
 query-sure : (t : Tables) (ws : List ℕ) (k v threshold : ℕ) → Sure (calls.asked t ws k v threshold)
@@ -132,38 +133,40 @@ part-length column wish h e = sym (length-take-le (wish .b) column (h e))
 
 -- ---- what is left of the sessions
 
--- the first as it stood: all stand as they did
-pub first-stands : (ts : List Session) (d : Session) → leaves ts (left 0 (getD ts 0 d) false) ≡ ts
+-- none put: all stand as they did, or are free
+none-left : (ts : List Session) (l : Left) (z : Bool) → l .put ≡ false → l .anew ≡ z → leaves ts l ≡ cond z (replicate 16 freed) ts
 unfolding leaves
-first-stands ts d = set-getD ts 0 d
+none-left ts l z p n = ap₂ (λ (a b : Bool). cond a (replicate 16 freed) (cond b (set ts (l .place) (l .session)) ts)) n p
 
--- a session at its place, or at none
-one-left : (ts : List Session) (d : Session) (n : ℕ) (x : Session) → leaves ts (leftAt n x (getD ts 0 d)) ≡ putAt ts n x
-unfolding leftAt putAt leaves
-one-left ts d n x = go (ltb n 16)
-  where
-    go : (z : Bool) → leaves ts (cond z (left n x false) (left 0 (getD ts 0 d) false)) ≡ cond z (set ts n x) ts
-    go true = refl
-    go false = first-stands ts d
+pub all-stand : (ts : List Session) (l : Left) → l .put ≡ false → l .anew ≡ false → leaves ts l ≡ ts
+all-stand ts l p n = none-left ts l false p n
 
--- all are free, or stand as they did
-all-left : (ts : List Session) (d : Session) (z : Bool) → length ts ≡ 16 → leaves ts (left 0 (getD ts 0 d) z) ≡ allFreed ts z
-unfolding leaves allFreed freedAll
-all-left ts d true l =
+all-freed : (ts : List Session) (z : Bool) → length ts ≡ 16 → cond z (replicate 16 freed) ts ≡ allFreed ts z
+unfolding allFreed freedAll
+all-freed ts true l =
     sym (sets-eq (replicate 16 freed) ts 0 (omega (arith, l, length-replicate 16 freed))
     ∙ ap (λ (us : List Session). replicate 16 freed ++ us) (drop-of-length-le ts {i = 16} (omega (arith, l))) ∙ append-nil _)
-all-left ts d false l = first-stands ts d
+all-freed ts false l = refl
 
-pub left-near : (n : ℕ) (x first : Session) → n < 16 → left n x false ≡ leftAt n x first
-unfolding leftAt
-left-near n x first h = ap (λ (z : Bool). cond z (left n x false) (left 0 first false)) (sym (lt-ltb n 16 h))
+-- a session at its place, or at none
+one-left : (ts : List Session) (n : ℕ) (x : Session) → leaves ts (leftAt n x) ≡ putAt ts n x
+unfolding leftAt putAt leaves
+one-left ts n x = go (ltb n 16)
+  where
+    go : (z : Bool) → leaves ts (cond z (left n x true) (left 0 x false)) ≡ cond z (set ts n x) ts
+    go true = refl
+    go false = refl
 
-pub left-far : (n : ℕ) (x first : Session) → 16 ≤ n → left 0 first false ≡ leftAt n x first
-unfolding leftAt
-left-far n x first h = ap (λ (z : Bool). cond z (left n x false) (left 0 first false)) (sym (le-ltb n 16 h))
+module _ (n : ℕ) (x : Session) where
+  at-place : (z : Bool) → z ≡ ltb n 16 → cond z (left n x true) (left 0 x false) ≡ leftAt n x
+  unfolding leftAt
+  at-place z e = rw e
 
-pub left-anew : (first : Session) (z z′ : Bool) → z ≡ z′ → left 0 first z ≡ left 0 first z′
-left-anew first z z′ e = ap (left 0 first) e
+  pub left-near : n < 16 → left n x true ≡ leftAt n x
+  left-near h = at-place true (sym (lt-ltb n 16 h))
+
+  pub left-far : 16 ≤ n → left 0 x false ≡ leftAt n x
+  left-far h = at-place false (sym (le-ltb n 16 h))
 
 -- which answers are no refusal
 module _ (answer : core.Answer) where
@@ -193,7 +196,7 @@ module _ (answer : core.Answer) where
 -- ---- the call of each word
 
 module _ (clock₀ slots₀ ws₀ heads₀ log₀ changes₀ clock slots ws heads log changes : List ℕ) (ts : List Session)
-    (s column : List ℕ) (wish : Request) (answer told : core.Answer) (d : Session) (l : Left) where
+    (s column : List ℕ) (wish : Request) (answer told : core.Answer) (l : Left) where
   abbrev t : Tables
   t = tables clock₀ slots₀ ws₀ heads₀ log₀ changes₀ ts
 
@@ -217,62 +220,70 @@ module _ (clock₀ slots₀ ws₀ heads₀ log₀ changes₀ clock slots ws head
 
   pub create-turns : length ts ≡ 16 → wish .word ≡ word.Column
       → outcome (after (allFreed ts (accepts (said told)))) [] (said told) ≡ createOf t (wish .a) (take (wish .b) column) → answer ≡ told
-      → l ≡ left 0 (getD ts 0 d) (accepts (said told)) → Done s
+      → l .put ≡ false → l .anew ≡ accepts (said told) → Done s
   unfolding askedBy turnOf askWith scratchAfter
-  create-turns n p e a f =
-      turns (allFreed ts (accepts (said told))) [] (create (wish .a) (take (wish .b) column)) e a (ap (leaves ts) f ∙ all-left ts d _ n)
+  create-turns n p e a f g =
+      turns (allFreed ts (accepts (said told))) [] (create (wish .a) (take (wish .b) column)) e a (none-left ts l _ f g ∙ all-freed ts _ n)
       (by-word word.Column p ∙ ap (λ (col : List ℕ). made t s (create (wish .a) col)) (bytes-again (take (wish .b) column)))
 
-  pub none-turns : wish .word ≡ word.Unknown → said answer ≡ no 19 → l ≡ left 0 (getD ts 0 d) false
+  pub none-turns : wish .word ≡ word.Unknown → said answer ≡ no 19 → l .put ≡ false → l .anew ≡ false
       → Turned t (tables clock₀ slots₀ ws₀ heads₀ log₀ changes₀ (leaves ts l)) s s (asked wish column) (said answer)
   unfolding askedBy turnOf heardFrom
-  none-turns p a f =
+  none-turns p a f g =
       ap₂ (λ (us : List Session) (b : Said). turn (tables clock₀ slots₀ ws₀ heads₀ log₀ changes₀ us) s (heardFrom ws₀ s b))
-      (ap (leaves ts) f ∙ first-stands ts d) a ∙ sym (by-word word.Unknown p)
+      (all-stand ts l f g) a ∙ sym (by-word word.Unknown p)
 
   module _ (x : Session) where
     -- a call about session a that came to this
     abbrev About : List (List ℕ) → Outcome → Type 0
     About bs o = outcome (after (putAt ts (wish .a) x)) bs (said told) ≡ o
 
-    one : (bs : List (List ℕ)) (k : Ask) → About bs (comesTo t k) → answer ≡ told → l ≡ leftAt (wish .a) x (getD ts 0 d)
+    one : (bs : List (List ℕ)) (k : Ask) → About bs (comesTo t k) → answer ≡ told → l ≡ leftAt (wish .a) x
         → turnOf t s (asked wish column) ≡ made t s k → Done (scratchAfter s bs)
-    one bs k e a f c = turns (putAt ts (wish .a) x) bs k e a (ap (leaves ts) f ∙ one-left ts d (wish .a) x) c
+    one bs k e a f c = turns (putAt ts (wish .a) x) bs k e a (ap (leaves ts) f ∙ one-left ts (wish .a) x) c
 
     pub query-turns : (s′ : List ℕ) → wish .word ≡ word.Query → About (s′ ∷ []) (queryOf t s (wish .a) (wish .b) 8) → answer ≡ told
-        → l ≡ leftAt (wish .a) x (getD ts 0 d) → Done s′
+        → l ≡ leftAt (wish .a) x → Done s′
     unfolding askedBy turnOf askWith scratchAfter usualThreshold
     query-turns s′ p e a f = one (s′ ∷ []) (query s (wish .a) (wish .b) 8) e a f (by-word word.Query p)
 
-    pub begin-turns : wish .word ≡ word.Begin → About [] (beginOf t (wish .a)) → answer ≡ told → l ≡ leftAt (wish .a) x (getD ts 0 d) → Done s
+    pub begin-turns : wish .word ≡ word.Begin → About [] (beginOf t (wish .a)) → answer ≡ told
+        → l ≡ leftAt (wish .a) x → Done s
     unfolding askedBy turnOf askWith scratchAfter
     begin-turns p e a f = one [] (begin (wish .a)) e a f (by-word word.Begin p)
 
-    pub read-turns : wish .word ≡ word.Read → About [] (readOf t (wish .a) (wish .b)) → answer ≡ told → l ≡ leftAt (wish .a) x (getD ts 0 d) → Done s
+    pub read-turns : wish .word ≡ word.Read → About [] (readOf t (wish .a) (wish .b)) → answer ≡ told
+        → l ≡ leftAt (wish .a) x → Done s
     unfolding askedBy turnOf askWith scratchAfter
     read-turns p e a f = one [] (read (wish .a) (wish .b)) e a f (by-word word.Read p)
 
-    pub update-turns : wish .word ≡ word.Update → About [] (updateOf t (wish .a) (wish .b) (wish .c)) → answer ≡ told → l ≡ leftAt (wish .a) x (getD ts 0 d) → Done s
+    pub update-turns : wish .word ≡ word.Update → About [] (updateOf t (wish .a) (wish .b) (wish .c)) → answer ≡ told
+        → l ≡ leftAt (wish .a) x → Done s
     unfolding askedBy turnOf askWith scratchAfter
     update-turns p e a f = one [] (update (wish .a) (wish .b) (wish .c)) e a f (by-word word.Update p)
 
-    pub delete-turns : wish .word ≡ word.Delete → About [] (deleteOf t (wish .a) (wish .b)) → answer ≡ told → l ≡ leftAt (wish .a) x (getD ts 0 d) → Done s
+    pub delete-turns : wish .word ≡ word.Delete → About [] (deleteOf t (wish .a) (wish .b)) → answer ≡ told
+        → l ≡ leftAt (wish .a) x → Done s
     unfolding askedBy turnOf askWith scratchAfter
     delete-turns p e a f = one [] (delete (wish .a) (wish .b)) e a f (by-word word.Delete p)
 
-    pub insert-turns : wish .word ≡ word.Insert → About [] (insertOf t (wish .a) (wish .b)) → answer ≡ told → l ≡ leftAt (wish .a) x (getD ts 0 d) → Done s
+    pub insert-turns : wish .word ≡ word.Insert → About [] (insertOf t (wish .a) (wish .b)) → answer ≡ told
+        → l ≡ leftAt (wish .a) x → Done s
     unfolding askedBy turnOf askWith scratchAfter
     insert-turns p e a f = one [] (insert (wish .a) (wish .b)) e a f (by-word word.Insert p)
 
-    pub commit-turns : wish .word ≡ word.Commit → About [] (commitOf t (wish .a)) → answer ≡ told → l ≡ leftAt (wish .a) x (getD ts 0 d) → Done s
+    pub commit-turns : wish .word ≡ word.Commit → About [] (commitOf t (wish .a)) → answer ≡ told
+        → l ≡ leftAt (wish .a) x → Done s
     unfolding askedBy turnOf askWith scratchAfter
     commit-turns p e a f = one [] (commit (wish .a)) e a f (by-word word.Commit p)
 
-    pub tidy-turns : wish .word ≡ word.Tidy → About [] (tidyOf t (wish .a) (wish .b)) → answer ≡ told → l ≡ leftAt (wish .a) x (getD ts 0 d) → Done s
+    pub tidy-turns : wish .word ≡ word.Tidy → About [] (tidyOf t (wish .a) (wish .b)) → answer ≡ told
+        → l ≡ leftAt (wish .a) x → Done s
     unfolding askedBy turnOf askWith scratchAfter
     tidy-turns p e a f = one [] (tidy (wish .a) (wish .b)) e a f (by-word word.Tidy p)
 
-    pub abort-turns : wish .word ≡ word.Abort → About [] (abortOf t (wish .a)) → answer ≡ told → l ≡ leftAt (wish .a) x (getD ts 0 d) → Done s
+    pub abort-turns : wish .word ≡ word.Abort → About [] (abortOf t (wish .a)) → answer ≡ told
+        → l ≡ leftAt (wish .a) x → Done s
     unfolding askedBy turnOf askWith scratchAfter
     abort-turns p e a f = one [] (abort (wish .a)) e a f (by-word word.Abort p)
 

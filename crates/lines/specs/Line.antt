@@ -49,7 +49,8 @@ pub record PutLine (entry : List ℕ) (answer : Answer) (exit : List ℕ) (r : �
 -- the answer stands at the front of its buffer, and a column's values at the front of theirs
 unfoldable pub written : Turn → List ℕ → List ℕ → List ℕ → LineOutcome
 written o line column out =
-    lineOutcome (o .after) (o .scratch) (sets column 0 (lineBytes line)) (sets out 0 (answerLine (o .answer))) (length (answerLine (o .answer)))
+    lineOutcome (o .after) (o .scratch) (sets column 0 (lineBytes line)) (sets out 0 (answerLine (o .answer)))
+    (length (answerLine (o .answer)))
 
 -- a line on lent tables, a scratch, and the two buffers: where one of these is too short for some line, nothing is done
 unfoldable pub lineOf : Tables → List ℕ → List ℕ → List ℕ → List ℕ → LineOutcome

@@ -101,12 +101,11 @@ pub fn line(
         (now (scratch .entry)) (now (column .entry)) (now (out .entry)) (now (bytes .entry)) ⌝ }
     ensures { λ r. ⌜ (r .len ≤ 10276) × (r .left .place < 16) ⌝ }
 {
-    let first = all.at[0];
     if column.len() < 4096 {
-        return nothing(first);
+        return nothing();
     }
     if out.len() < 10276 {
-        return nothing(first);
+        return nothing();
     }
     line_in(
         clock,

@@ -1,11 +1,11 @@
 // What a line asks for is done, by the public call of its word.
 use crate::sessions::Left;
 use crate::sessions::left_at;
+use crate::sessions::none_put;
+use outcomes::Answer;
 use door::Held;
 use door::Sessions;
-use outcomes::Answer;
 use tables::Refusal;
-use tables::Session;
 use text::Request;
 use text::Word;
 ghost use mathlib.Core.Path.{_≡_};
@@ -17,7 +17,7 @@ ghost use Rattle.text.specs.declared.words.Word.the-variants.{Column};
 ghost use Rattle.text.specs.Asked.{asked};
 ghost use Rattle.outcomes.specs.Said.{said, no};
 ghost use Rattle.door.specs.Accepts.{accepts};
-ghost use Rattle.lines.specs.Left.{left, leaves, leftAt};
+ghost use Rattle.lines.specs.Left.{leaves, leftAt};
 ghost use Rattle.lines.specs.Turn.{Turned};
 
 // What a request comes to beside the lent tables: its answer, and what it leaves of the sessions.
@@ -27,14 +27,10 @@ pub struct Done {
 }
 
 // No call is made.
-fn unreadable(first: Session) -> Done
-    ensures { λ r. ⌜ (said (r .answer) ≡ no 19) × (r .left ≡ left 0 first false) × (r .left .place < 16) ⌝ }
+fn unreadable() -> Done
+    ensures { λ r. ⌜ (said (r .answer) ≡ no 19) × (r .left .put ≡ false) × (r .left .anew ≡ false) × (r .left .place < 16) ⌝ }
 {
-    let left = Left {
-        place: 0,
-        session: first,
-        anew: false,
-    };
+    let left = none_put(false);
     Done {
         answer: Answer::No(Refusal::Unreadable),
         left: left,
@@ -42,12 +38,12 @@ fn unreadable(first: Session) -> Done
 }
 
 // A call about session n.
-fn about(n: u64, d: Held, first: Session) -> Done
-    ensures { λ r. ⌜ (r .answer ≡ d .answer) × (r .left ≡ leftAt n (d .session) first) × (r .left .place < 16) ⌝ }
+fn about(n: u64, d: Held) -> Done
+    ensures { λ r. ⌜ (r .answer ≡ d .answer) × (r .left ≡ leftAt n (d .session)) × (r .left .place < 16) ⌝ }
 {
     let answer = d.answer;
     let session = d.session;
-    let left = left_at(n, session, first);
+    let left = left_at(n, session);
     Done {
         answer: answer,
         left: left,
@@ -68,14 +64,10 @@ fn accepted(answer: Answer) -> bool
 }
 
 // A create: where it was accepted, all sessions are free.
-fn created(answer: Answer, first: Session) -> Done
-    ensures { λ r. ⌜ (r .answer ≡ answer) × (r .left ≡ left 0 first (accepts (said answer))) × (r .left .place < 16) ⌝ }
+fn created(answer: Answer) -> Done
+    ensures { λ r. ⌜ (r .answer ≡ answer) × (r .left .put ≡ false) × (r .left .anew ≡ accepts (said answer)) × (r .left .place < 16) ⌝ }
 {
-    let left = Left {
-        place: 0,
-        session: first,
-        anew: accepted(answer),
-    };
+    let left = none_put(accepted(answer));
     Done {
         answer: answer,
         left: left,
@@ -103,7 +95,6 @@ pub fn turn(
         (now (scratch .entry)) (now (scratch .exit)) (asked wish (now (column .entry))) (said (r .answer)) ⌝ }
     ensures { λ r. ⌜ r .left .place < 16 ⌝ }
 {
-    let first = all.at[0];
     let word = wish.word;
     let a = wish.a;
     let b = wish.b;
@@ -121,11 +112,11 @@ pub fn turn(
                 a,
                 &column[..n],
             );
-            created(answer, first)
+            created(answer)
         }
         Word::Begin => {
             let d = door::begin_held(clock, slots, words, heads, log, changes, all, a);
-            about(a, d, first)
+            about(a, d)
         }
         Word::Query => {
             let d = door::query_held(
@@ -141,36 +132,36 @@ pub fn turn(
                 b,
                 8,
             );
-            about(a, d, first)
+            about(a, d)
         }
         Word::Read => {
             let d = door::read_held(clock, slots, words, heads, log, changes, all, a, b);
-            about(a, d, first)
+            about(a, d)
         }
         Word::Update => {
             let d = door::update_held(clock, slots, words, heads, log, changes, all, a, b, wish.c);
-            about(a, d, first)
+            about(a, d)
         }
         Word::Delete => {
             let d = door::delete_held(clock, slots, words, heads, log, changes, all, a, b);
-            about(a, d, first)
+            about(a, d)
         }
         Word::Insert => {
             let d = door::insert_held(clock, slots, words, heads, log, changes, all, a, b);
-            about(a, d, first)
+            about(a, d)
         }
         Word::Commit => {
             let d = door::commit_held(clock, slots, words, heads, log, changes, all, a);
-            about(a, d, first)
+            about(a, d)
         }
         Word::Tidy => {
             let d = door::tidy_held(clock, slots, words, heads, log, changes, all, a, b);
-            about(a, d, first)
+            about(a, d)
         }
         Word::Abort => {
             let d = door::abort_held(clock, slots, words, heads, log, changes, all, a);
-            about(a, d, first)
+            about(a, d)
         }
-        Word::Unknown => unreadable(first),
+        Word::Unknown => unreadable(),
     }
 }

@@ -13,7 +13,7 @@ use lib.Seq.{sets, sets-eq, length-sets, take-all, take-append-seam}
 use Rattle.bits.proofs.Cases.{eq-cases}
 use Rattle.text.specs.declared.feed.Fed.{Fed}
 use Rattle.text.specs.Feed.{cut, pend, wholeLine, Feeds}
-use Rattle.steps.specs.Desk.{Desk, desk, afterLines, answersOf}
+use Rattle.steps.specs.Desk.{Desk, afterLines, answersOf}
 use Rattle.steps.specs.Answers.{Replied, linesLeft, Spot, spot, Fits, Comes, Answers}
 use Rattle.steps.proofs.ReplyLaws.{answers-append, after-append}
 
@@ -122,7 +122,9 @@ module _ (at n filled room : ℕ) (more : Bool) (e : more ≡ ltb at n && leb 10
   more-left t = ltb-true at n (and-eq-true-iff (ltb at n) (leb 10276 (room - filled)) .0 (sym e ∙ t) .0)
 
   more-room : more ≡ true → filled ≤ room → filled + 10276 ≤ room
-  more-room t l = omega (arith, l, leb-true 10276 (room - filled) (and-eq-true-iff (ltb at n) (leb 10276 (room - filled)) .0 (sym e ∙ t) .1))
+  more-room t l =
+      let both = and-eq-true-iff (ltb at n) (leb 10276 (room - filled)) .0 (sym e ∙ t) in
+      omega (arith, l, leb-true 10276 (room - filled) (both .1))
 
   no-more : more ≡ false → filled ≤ room → at < n → room < filled + 10276
   no-more t l h =

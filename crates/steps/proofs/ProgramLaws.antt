@@ -6,13 +6,13 @@ use mathlib.Core.List.{List, [], _∷_, _++_, map, append-assoc}
 use mathlib.Core.Logic.{_⊎_, inl, inr}
 use Prim.Native.Nat.{ℕ, _+_, _<_, _≤_}
 use native.Mathlib.Omega.{arith}
-use borrow.Author.Tests.{ltb-true, ltb-false, lt-ltb}
+use borrow.Author.Tests.{ltb-true, ltb-false}
 use lib.Dec.{ltb}
-use lib.ListN.{length, take, drop, replicate, length-take, drop-of-length-le}
+use lib.ListN.{length, take, replicate, length-take, drop-of-length-le}
 use lib.Seq.{take-all, take-take}
 use Rattle.bits.proofs.Cases.{bool-cases}
 use Rattle.tables.specs.declared.session.Session.{Session}
-use Rattle.tables.specs.Cells.{Tables, tables}
+use Rattle.tables.specs.Cells.{tables}
 use Rattle.tables.specs.Sessions.{freed}
 use Rattle.text.specs.Parse.{longestLine}
 use Rattle.text.specs.Lines.{lastLine, linesOf}
@@ -22,9 +22,9 @@ use Rattle.ends.specs.declared.watch.Watch.{Watch}
 use Rattle.ends.specs.declared.Told.{Told}
 use Rattle.ends.specs.Watch.{fresh, watched}
 use Rattle.steps.specs.Desk.{Desk, desk, afterLines, answersOf}
-use Rattle.steps.specs.Answers.{linesLeft, pendingLeft, Spot, spot, Answers}
+use Rattle.steps.specs.Answers.{linesLeft, pendingLeft, spot, Answers}
 use Rattle.ends.specs.Ends.{Taken, Handed}
-use Rattle.steps.specs.Program.{Does, Through, Read, Ends, Blank, zeros, blank, freshTold, Program}
+use Rattle.steps.specs.Program.{Does, Through, Read, Ends, Blank, blank, freshTold, Program}
 use Rattle.steps.proofs.ReplyLaws.{answers-append, after-append}
 use Rattle.ends.proofs.WatchLaws.{watched-append}
 use Rattle.ends.proofs.EndsLaws.{taken-none, taken-more}

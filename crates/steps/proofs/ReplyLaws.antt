@@ -1,12 +1,12 @@
 -- A line answered, or none: what it leaves, and the bytes of its answer.
 -- Assumes nothing.
-use mathlib.Core.Path.{_≡_, refl, sym, ap, _∙_}
+use mathlib.Core.Path.{_≡_, refl, sym, ap, ap₂, _∙_}
 use mathlib.Core.Bool.{Bool, true, false, not, cond}
 use mathlib.Core.List.{List, [], _∷_, _++_, append-nil, append-assoc}
 use Prim.Native.Nat.{ℕ, _≤_}
 use native.Mathlib.Omega.{arith}
 use borrow.Author.Tests.{not-true, not-false}
-use lib.ListN.{length, getD, set, replicate}
+use lib.ListN.{length, set, replicate}
 use lib.Seq.{sets}
 use Rattle.tables.specs.declared.session.Session.{Session}
 use Rattle.tables.specs.Cells.{Tables, tables}
@@ -16,8 +16,8 @@ use Rattle.text.specs.Feed.{wholeLine}
 use Rattle.lines.specs.Turn.{turnOf}
 use Rattle.lines.specs.Line.{LineOutcome, lineOutcome, answerLine, written, lineOf}
 use Rattle.lines.specs.declared.sessions.Left.{Left}
-use Rattle.lines.specs.Left.{left, leaves}
-use Rattle.lines.proofs.TurnLaws.{first-stands}
+use Rattle.lines.specs.Left.{leaves}
+use Rattle.lines.proofs.TurnLaws.{all-stand}
 use Rattle.lines.proofs.LineLaws.{line-read}
 use Rattle.steps.specs.Desk.{Desk, desk, turnAt, afterLine, afterLines, answersOf}
 use Rattle.steps.specs.Answers.{Replied}
@@ -54,27 +54,24 @@ module _ (t t′ : Tables) (s s′ column column′ out out′ line : List ℕ) 
       } in
       rw (not-false whole w) r
 
-module _ (clock slots words heads log changes s out line : List ℕ) (ts : List Session) (d : Session) (l : Left) (len : ℕ) where
-  pub replied-none : (whole : Bool) → not whole ≡ true → len ≡ 0 → l ≡ left 0 (getD ts 0 d) false
+module _ (clock slots words heads log changes s out line : List ℕ) (ts : List Session) (l : Left) (len : ℕ) where
+  pub replied-none : (whole : Bool) → not whole ≡ true → len ≡ 0 → l .put ≡ false → l .anew ≡ false
       → Replied (desk (tables clock slots words heads log changes ts) s) (wholeLine whole line) out
       (desk (tables clock slots words heads log changes (leaves ts l)) s) out len
   unfolding wholeLine afterLines answersOf
-  replied-none whole w n e =
+  replied-none whole w n p z =
       let t = tables clock slots words heads log changes in
       let r : Replied (desk (t ts) s) [] out (desk (t (leaves ts l)) s) out len =
-      record { desk-is = ap (λ (us : List Session). desk (t us) s) (ap (leaves ts) e ∙ first-stands ts d); out-is = refl; len-is = n; short = omega arith } in
+      record { desk-is = ap (λ (us : List Session). desk (t us) s) (all-stand ts l p z); out-is = refl; len-is = n; short = omega arith } in
       rw (not-true whole w) r
 
 -- ---- what a line left of the sessions, put in place
 
-module _ (ts us : List Session) (l : Left) where
-  pub left-free : l .anew ≡ true → us ≡ replicate 16 freed → us ≡ leaves ts l
-  unfolding leaves
-  left-free z e = e ∙ ap (λ (b : Bool). cond b (replicate 16 freed) (set ts (l .place) (l .session))) (sym z)
-
-  pub left-one : l .anew ≡ false → us ≡ set ts (l .place) (l .session) → us ≡ leaves ts l
-  unfolding leaves
-  left-one z e = e ∙ ap (λ (b : Bool). cond b (replicate 16 freed) (set ts (l .place) (l .session))) (sym z)
+pub left-by : (ts us : List Session) (l : Left) (a b : Bool) → l .anew ≡ a → l .put ≡ b
+    → us ≡ cond a (replicate 16 freed) (cond b (set ts (l .place) (l .session)) ts) → us ≡ leaves ts l
+unfolding leaves
+left-by ts us l a b p q e =
+    e ∙ sym (ap₂ (λ (c d : Bool). cond c (replicate 16 freed) (cond d (set ts (l .place) (l .session)) ts)) p q)
 
 pub replied-put : {d : Desk} {ls : List (List ℕ)} {out out′ clock slots words heads log changes s : List ℕ} {us vs : List Session} {n : ℕ}
     → Replied d ls out (desk (tables clock slots words heads log changes vs) s) out′ n → us ≡ vs

@@ -56,8 +56,7 @@ fn answered(
 {
     let n = fed.line;
     if !fed.whole {
-        let first = all.at[0];
-        return lines::nothing(first);
+        return lines::nothing();
     }
     lines::line(
         clock,
@@ -124,9 +123,10 @@ pub fn answer(
         let left = done.left;
         let i = left.place;
         let session = left.session;
-        all.at[i] = session;
         if left.anew {
             all = lines::all_free();
+        } else if left.put {
+            all.at[i] = session;
         }
         filled = filled + done.len;
         len = fed.len;

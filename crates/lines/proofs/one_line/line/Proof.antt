@@ -9,7 +9,6 @@ pub line-spec : {M : Type 1} → statement M
 line-spec =
     tie.close
     (tie.spec
-    (λ c. search needs)
     (λ c κs. search needs)
     (λ c. (search nothing-column, search needs))
     (λ c κs. search needs)

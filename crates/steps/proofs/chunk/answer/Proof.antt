@@ -1,17 +1,20 @@
 -- `chunk::answer` meets its contract: at the loop's head, the lines answered so far are the first of those that were left.
 -- Assumes nothing.
-use mathlib.Core.Path.{_≡_, ap, _∙_}
+use mathlib.Core.Path.{_≡_, refl, ap, _∙_}
+use mathlib.Core.Bool.{true, false}
+use mathlib.Core.List.{List}
 use mathlib.Core.Logic.{⊎-elim}
 use Prim.Native.Nat.{_-_}
 use native.Mathlib.Omega.{arith}
 use borrow.Author.Needs.{needs}
 use lib.ListN.{length}
 use Rattle.tables.specs.Cells.{tables}
+use Rattle.tables.specs.declared.session.Session.{Session}
 use Rattle.door.specs.declared.Sessions.{Sessions}
 use Rattle.lines.specs.Left.{leaves}
 use Rattle.steps.specs.Desk.{desk}
 use Rattle.steps.specs.Answers.{spot}
-use Rattle.steps.proofs.ReplyLaws.{left-free, left-one, replied-put}
+use Rattle.steps.proofs.ReplyLaws.{left-by, replied-put}
 use Rattle.steps.proofs.KeptLaws.{Kept, kept-none, kept-more}
 use Rattle.steps.proofs.ChunkLaws.{Going, comes-none, filled-more, comes-more, going-left, going-room, going-part, going-end}
 use Rattle.steps.proofs.chunk.answer.Statement.{statement}
@@ -83,8 +86,10 @@ goes-on-requires-2 c κs =
 sessions : (c : tie.Joined1 Inv-loop μ-loop)
     → c .if1 .all .at ≡ leaves (began (answered (c .before)) .before .loop .all .at) (answered (c .before) .answered .result .left)
 sessions c =
-    ⊎-elim (λ w. left-free _ _ _ (w .0 .taken) (ap (λ (x : Sessions). x .at) (w .2) ∙ w .1 .ensures))
-    (λ w. left-one _ _ _ (w .0 .left) (ap (λ (x : Sessions). x .at) (w .1))) (c .if1 .came)
+    let at-of : Sessions → List Session = λ x. x .at in
+    ⊎-elim (λ w. left-by _ _ _ true _ (w .0 .taken) refl (ap at-of (w .2) ∙ w .1 .ensures))
+    (λ v. ⊎-elim (λ w. left-by _ _ _ false true (w .0 .left) (w .1 .taken) (ap at-of (w .2)))
+    (λ w. left-by _ _ _ false false (w .0 .left) (w .1 .left) (ap at-of (w .2))) v) (c .if1 .came)
 
 loop-again : tie.Need-loop-again Inv-loop μ-loop
 loop-again c =
@@ -105,13 +110,15 @@ answer-spec =
     (λ c κs. search needs)
     loop-holds
     (λ c κs. let g = c .before .before .loop .inv .1 in (g .came .fits .len-fits, going-left g (c .before .loop-test .taken)))
-    (λ c. let b = c .before .before .before .before .before .before .before in b .before .before .before .before .before .before .before .loop .inv .1 .came .fits .filled-fits)
-    (λ c. let b = c .before .before .before .before .before .before .before in b .before .before .before .before .before .before .before .loop .inv .1 .came .fits .filled-fits)
+    (λ c. let b = c .before .before .before .before .before .before .before in
+    b .before .before .before .before .before .before .before .loop .inv .1 .came .fits .filled-fits)
+    (λ c. let b = c .before .before .before .before .before .before .before in
+    b .before .before .before .before .before .before .before .loop .inv .1 .came .fits .filled-fits)
     (λ c. search needs)
     answered-requires
-    (λ c. omega (arith, answered c .answered .ensures .1))
-    (λ c. omega (arith, answered c .answered .ensures .1))
     (λ c κs. search needs)
+    (λ c. omega (arith, answered (c .before .before) .answered .ensures .1))
+    (λ c. omega (arith, answered (c .before .before) .answered .ensures .1))
     add-filled
     goes-on-requires-2
     (λ c. let f = fed (answered (c .before .before .before)) .feed-line .ensures in omega (arith, f .goes-on, f .within))

@@ -20,7 +20,6 @@ pub answered-spec : {M : Type 1} → statement M
 answered-spec =
     tie.close
     (tie.spec
-    (λ c. search needs)
     (λ c κs. search needs)
     (λ c. (search replied-none, search needs))
     (λ c. sym (length-take-le _ _ (search needs)))
