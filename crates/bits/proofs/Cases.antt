@@ -1,5 +1,4 @@
 -- The cases of a comparison and of a test, and two tests that are true together.
--- Assumes nothing.
 use mathlib.Core.Path.{_≡_, refl, sym}
 use mathlib.Core.Bool.{Bool, true, false}
 use mathlib.Core.Logic.{_⊎_, inl, inr}

@@ -1,5 +1,4 @@
 -- The passes over a column that set each row in its value's vector: the rows of one word gathered by value, then stored vector by vector.
--- Assumes nothing.
 use mathlib.Core.Path.{_≡_, refl, sym, ap, ap₂, _∙_, subst}
 use mathlib.Core.Bool.{Bool, false, cond, _&&_, _||_, or-false, and-false}
 use mathlib.Core.List.{List, _++_}

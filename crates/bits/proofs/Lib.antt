@@ -1,5 +1,4 @@
 -- The laws of bits: what its definitions come to, and what the proofs of its functions lean on.
--- Assumes nothing.
 
 pub mod Cases
 pub mod AllLaws

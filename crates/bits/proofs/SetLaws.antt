@@ -1,5 +1,4 @@
 -- The laws of flip sets: no bit is left above their count.
--- Assumes nothing.
 use mathlib.Core.Path.{_≡_}
 use mathlib.Core.Bool.{true}
 use Prim.Native.Nat.{ℕ, _/_, _^_, _≤_, _<_}

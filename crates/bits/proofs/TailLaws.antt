@@ -1,5 +1,4 @@
 -- No row at or above a row count is set: the same as a test of words.
--- Assumes nothing.
 use mathlib.Core.Path.{_≡_, sym, ap, _∙_}
 use mathlib.Core.Bool.{Bool, true, false, not, _&&_, _||_, or-true, and-eq-true-iff}
 use mathlib.Core.List.{List}

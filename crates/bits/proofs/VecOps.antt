@@ -1,5 +1,4 @@
 -- What each operation makes of the vector of a function: rows put, turned over, listed, counted, none from a row on.
--- Assumes nothing.
 use mathlib.Core.Path.{_≡_, sym, ap, _∙_, subst}
 use mathlib.Core.Bool.{Bool, false, cond}
 use mathlib.Core.List.{List}

@@ -1,5 +1,4 @@
 -- The laws of many vectors in one list of words, and of the test that no row from a count on is set in any.
--- Assumes nothing.
 use mathlib.Core.Path.{_≡_, sym, ap, ap₂, _∙_, subst}
 use mathlib.Core.Bool.{Bool, true, _&&_}
 use mathlib.Core.List.{List}

@@ -1,5 +1,4 @@
 -- The laws of the bits of a list of words: a list is its bits; one bit changed, two lists bit by bit; words stay words.
--- Assumes nothing.
 use mathlib.Core.Path.{_≡_, refl, sym, ap, ap₂, _∙_, subst}
 use mathlib.Core.Bool.{Bool, true, false, not, cond, _&&_, _||_}
 use mathlib.Core.List.{List}

@@ -1,5 +1,4 @@
 -- A test that holds of each number below n.
--- Assumes nothing.
 use mathlib.Core.Bool.{Bool, true, _&&_}
 use Prim.Native.Nat.{ℕ, zero, suc}
 

@@ -1,5 +1,4 @@
 -- Bit k of a number, 0 the lowest, and a number with one bit turned over, set or cleared.
--- Assumes nothing.
 use mathlib.Core.Bool.{Bool, true, false, not}
 use Prim.Native.Nat.{ℕ, _/_, _%_, _^_}
 use lib.Dec.{eqb}

@@ -1,5 +1,4 @@
 -- The first of two answers that may be missing.
--- Assumes nothing.
 use mathlib.Core.Path.{_≡_, refl}
 use mathlib.Core.Option.{Option, none, some, Option·some-ne-none}
 

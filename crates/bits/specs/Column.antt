@@ -1,5 +1,4 @@
 -- A column of bytes: the rows that hold a value, and the value that a byte stands for.
--- Assumes nothing.
 use mathlib.Core.Path.{_≡_, refl, ap}
 use mathlib.Core.Bool.{Bool, cond, _&&_, _||_}
 use mathlib.Core.List.{List}

@@ -1,5 +1,4 @@
 -- The vocabulary of bits: numbers by their bits, vectors by their rows, columns by their vectors.
--- Assumes nothing.
 
 pub mod Choice
 pub mod All

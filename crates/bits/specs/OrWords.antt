@@ -1,5 +1,4 @@
 -- The bits of many words in one.
--- Assumes nothing.
 use Prim.Native.Nat.{ℕ, zero, suc, _+_, _-_}
 use lib.Bits.{bitOr}
 

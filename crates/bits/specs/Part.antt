@@ -1,5 +1,4 @@
 -- A part of a longer list, and the list with another part in its place.
--- Assumes nothing.
 use mathlib.Core.List.{List, _++_}
 use Prim.Native.Nat.{ℕ, _+_}
 use lib.ListN.{length, take, drop}

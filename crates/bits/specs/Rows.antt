@@ -1,5 +1,4 @@
 -- The numbers below n that have f: how many they are, their list, ascending, and the smallest; and the same of the set rows of a vector.
--- Assumes nothing.
 use mathlib.Core.Path.{_≡_}
 use mathlib.Core.Bool.{Bool, true, false, cond}
 use mathlib.Core.List.{List, [], _∷_, _++_}

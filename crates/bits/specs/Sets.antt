@@ -1,5 +1,4 @@
 -- Flip sets: a number below 2 ^ c is a set of values below c, by its bits.
--- Assumes nothing.
 use mathlib.Core.Bool.{Bool}
 use Prim.Native.Nat.{ℕ, _^_}
 use lib.Dec.{ltb}

@@ -1,5 +1,4 @@
 -- The list of a function's values, and a list stored over the front of another.
--- Assumes nothing.
 use mathlib.Core.List.{List, [], _∷_, _++_}
 use Prim.Native.Nat.{ℕ, zero, suc, _+_}
 use lib.ListN.{length, drop}

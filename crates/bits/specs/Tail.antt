@@ -1,5 +1,4 @@
 -- No row at or above a row count is set.
--- Assumes nothing.
 use mathlib.Core.Bool.{Bool, not, _||_}
 use mathlib.Core.List.{List}
 use Prim.Native.Nat.{ℕ, _+_, _-_, _*_}

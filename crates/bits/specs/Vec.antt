@@ -1,5 +1,4 @@
 -- The words whose row r is f r, for a function f of the row.
--- Assumes nothing.
 use mathlib.Core.Bool.{Bool, cond}
 use mathlib.Core.List.{List}
 use Prim.Native.Nat.{ℕ, zero, suc, _+_, _*_}

@@ -1,5 +1,4 @@
 -- Many vectors in one list of words: vector i is its 32 words from 32 * i on, so that row r of it is bit 2048 * i + r of them all.
--- Assumes nothing.
 use mathlib.Core.Bool.{Bool}
 use mathlib.Core.List.{List}
 use Prim.Native.Nat.{ℕ, _+_, _*_}

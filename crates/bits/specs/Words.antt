@@ -1,5 +1,4 @@
 -- Bit r of a list of words of 64 bits, the lowest bit of the first word being bit 0.
--- Assumes nothing.
 use mathlib.Core.Bool.{Bool, cond}
 use mathlib.Core.List.{List}
 use Prim.Native.Nat.{ℕ, _/_, _%_, _^_, _<_}

@@ -1,5 +1,4 @@
 // A column of bytes as vectors, one for each value.
-// Assumes nothing.
 use crate::vectors;
 ghost use mathlib.Core.Path.{_≡_};
 ghost use Prim.Native.Nat.{_+_, _-_, _*_, _≤_, _<_, min};

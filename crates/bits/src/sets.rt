@@ -1,5 +1,4 @@
 // Flip sets: bit v of a u32 is set where the value v is in the set.
-// Assumes nothing.
 ghost use mathlib.Core.Path.{_≡_};
 ghost use Prim.Native.Nat.{_^_, _<_};
 ghost use Rattle.bits.specs.Bit.{bit, flipBit, clearBit};

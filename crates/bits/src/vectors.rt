@@ -1,5 +1,4 @@
 // Vectors: row r is bit r mod 64, bit 0 the lowest, of word r div 64.
-// Assumes nothing.
 ghost use mathlib.Core.Path.{_≡_};
 ghost use mathlib.Core.Bool.{false};
 ghost use Prim.Native.Nat.{_+_, _*_, _≤_, _<_};

@@ -1,5 +1,4 @@
 // A number of one type as the same number of another.
-// Assumes nothing.
 ghost use mathlib.Core.Path.{_≡_};
 ghost use Prim.Native.Nat.{_<_};
 

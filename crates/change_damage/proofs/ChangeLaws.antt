@@ -1,5 +1,4 @@
 -- The changes: all flip sets gathered, and the rows of all records of one row count at once.
--- Assumes nothing.
 use mathlib.Core.Path.{_≡_, sym, ap, ap₂, _∙_}
 use mathlib.Core.Bool.{Bool, true, false, not, _&&_}
 use mathlib.Core.List.{List}

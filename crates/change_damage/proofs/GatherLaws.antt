@@ -1,5 +1,4 @@
 -- Cells gathered into one set, their first half and their second at once: it is below 2 ^ c exactly if each cell is.
--- Assumes nothing.
 use mathlib.Core.Path.{_≡_, sym, ap, _∙_}
 use mathlib.Core.Bool.{Bool, true}
 use mathlib.Core.List.{List}

@@ -1,4 +1,3 @@
 -- The laws of changes that belong to no one function.
--- Assumes nothing.
 pub mod GatherLaws
 pub mod ChangeLaws

@@ -1,5 +1,4 @@
 -- The search for a clash: the later changes as one stretch; and step by step the records from one on, and in each the entries from one on.
--- Assumes nothing.
 use mathlib.Core.Path.{_≡_, refl, sym, ap, ap₂, _∙_}
 use mathlib.Core.Bool.{Bool, true, false, not, _||_, or-assoc, or-false}
 use mathlib.Core.List.{List}

@@ -1,5 +1,4 @@
 -- Commit on the lent tables: its changes are the rules', and what each end of `commit_now` and of the core comes to.
--- Assumes nothing.
 use mathlib.Core.Path.{_≡_, refl, sym, ap, ap₂, _∙_}
 use mathlib.Core.Option.{Option, none, some}
 use mathlib.Core.List.{List, [], _∷_}

@@ -1,5 +1,4 @@
 -- The refusals of commit on the cells, one by one, and as the rules judge them.
--- Assumes nothing.
 use mathlib.Core.Path.{_≡_, refl, sym, ap, _∙_}
 use mathlib.Core.Bool.{Bool, true, false}
 use mathlib.Core.Option.{Option, none, some}

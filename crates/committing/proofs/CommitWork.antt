@@ -1,5 +1,4 @@
 -- A commit that is not refused: what its parts need, and what they leave together.
--- Assumes nothing.
 use mathlib.Core.Path.{_≡_, refl, sym, ap, _∙_}
 use mathlib.Core.List.{List, [], _∷_}
 use mathlib.Core.Option.{Option}

@@ -1,5 +1,4 @@
 -- The laws of commit that belong to no one function.
--- Assumes nothing.
 pub mod ClashLaws
 pub mod WriteLaws
 pub mod CommitWork

@@ -1,5 +1,4 @@
 -- What an accepted commit writes, step by step: flip sets, the changes of the listed rows and of the inserts, the record.
--- Assumes nothing.
 use mathlib.Core.Path.{_≡_, refl, sym, ap, ap₂, _∙_}
 use mathlib.Core.Option.{Option, some}
 use mathlib.Core.List.{List, [], _∷_, _++_}

@@ -1,5 +1,4 @@
 -- Commit on the cells: its tests, its flip sets, its changes, and what each part of it needs and leaves.
--- Assumes nothing.
 use mathlib.Core.Path.{_≡_}
 use mathlib.Core.Bool.{cond}
 use mathlib.Core.Option.{Option, none, some}

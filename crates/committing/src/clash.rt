@@ -1,4 +1,4 @@
-// The search for a record after the start that names a listed row. Assumes nothing.
+// The search for a record after the start that names a listed row.
 use tables::Session;
 use tables::Stamp;
 ghost use mathlib.Core.Path.{_≡_};

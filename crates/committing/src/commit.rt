@@ -1,4 +1,4 @@
-// Commit: its refusals, and what it writes. Assumes nothing.
+// Commit: its refusals, and what it writes.
 use crate::clash;
 use crate::writes;
 use lent::Seat;

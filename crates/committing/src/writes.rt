@@ -1,4 +1,4 @@
-// What an accepted commit writes: the changes of the listed rows and of the inserts, the record, the clock. Assumes nothing.
+// What an accepted commit writes: the changes of the listed rows and of the inserts, the record, the clock.
 use history::Standing;
 use outcomes::Answer;
 use tables::Row;

@@ -1,5 +1,4 @@
 -- Create: the column's test, the cells, the vectors and the clock of a new index, and what the call comes to.
--- Assumes nothing.
 use mathlib.Core.Path.{_≡_, refl, sym, ap, ap₂, _∙_}
 use mathlib.Core.Bool.{Bool, true, false, not, cond, _&&_, _||_}
 use mathlib.Core.Option.{none, some}

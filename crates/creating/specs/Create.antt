@@ -1,5 +1,4 @@
 -- Create: what it needs, and what it makes of the number tables.
--- Assumes nothing.
 use mathlib.Core.Path.{_≡_}
 use mathlib.Core.List.{List}
 use Prim.Native.Nat.{ℕ, _≤_}

@@ -1,4 +1,4 @@
-// Create. Assumes nothing.
+// Create.
 use outcomes::Answer;
 use outcomes::Freed;
 use tables::Clock;
@@ -98,7 +98,12 @@ fn create_work(
     column: &[u8],
 ) -> Answer
     requires { ⌜ Creatable (now clock) (now slots) (now words) (now heads) (now log) (now changes) (values .0) (now column) ⌝ }
-    ensures { λ r. ⌜ Created (tables (now (clock .entry)) (now (slots .entry)) (now (words .entry)) (now (heads .entry)) (now (log .entry)) (now (changes .entry))) (tables (now (clock .exit)) (now (slots .exit)) (now (words .exit)) (now (heads .exit)) (now (log .exit)) (now (changes .exit))) (values .0) (now (column .entry)) r ⌝ }
+    ensures { λ r. ⌜ Created
+        (tables (now (clock .entry)) (now (slots .entry)) (now (words .entry)) (now (heads .entry)) (now (log .entry))
+        (now (changes .entry)))
+        (tables (now (clock .exit)) (now (slots .exit)) (now (words .exit)) (now (heads .exit)) (now (log .exit))
+        (now (changes .exit)))
+        (values .0) (now (column .entry)) r ⌝ }
 {
     let rows = Row(bits::narrow(column.len()));
     numbered(slots, tables::SLOT_CELLS, values);
@@ -128,7 +133,12 @@ pub fn create_in(
     c: u64,
     column: &[u8],
 ) -> Freed
-    ensures { λ r. ⌜ Creates (tables (now (clock .entry)) (now (slots .entry)) (now (words .entry)) (now (heads .entry)) (now (log .entry)) (now (changes .entry))) (tables (now (clock .exit)) (now (slots .exit)) (now (words .exit)) (now (heads .exit)) (now (log .exit)) (now (changes .exit))) places r (λ t. createOf t c (now (column .entry))) ⌝ }
+    ensures { λ r. ⌜ Creates
+        (tables (now (clock .entry)) (now (slots .entry)) (now (words .entry)) (now (heads .entry)) (now (log .entry))
+        (now (changes .entry)))
+        (tables (now (clock .exit)) (now (slots .exit)) (now (words .exit)) (now (heads .exit)) (now (log .exit))
+        (now (changes .exit)))
+        places r (λ t. createOf t c (now (column .entry))) ⌝ }
 {
     if !damage::room(clock, slots, words, heads, log, changes, places) {
         return outcomes::none_freed(Refusal::NoRoom);

@@ -1,5 +1,4 @@
 -- The laws of the damage check that belong to no one function.
--- Assumes nothing.
 pub mod SlotLaws
 pub mod VectorLaws
 pub mod NumberLaws

@@ -1,5 +1,4 @@
 -- The slots below C and the later ones, and a link that is looked at a step at a time.
--- Assumes nothing.
 use mathlib.Core.Path.{_≡_, refl, sym, ap, ap₂, _∙_}
 use mathlib.Core.Bool.{Bool, true, false, not, _&&_, cond}
 use mathlib.Core.List.{List}

@@ -1,5 +1,4 @@
 -- Number 2 put together: the number tables fit and each session is judged well exactly if the tables are sound.
--- Assumes nothing.
 use mathlib.Core.Path.{_≡_, refl, sym, ap, _∙_}
 use mathlib.Core.Bool.{Bool, true, false, _&&_, _||_}
 use mathlib.Core.List.{List}

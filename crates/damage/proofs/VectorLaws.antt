@@ -1,5 +1,4 @@
 -- The vectors: those of slots below C, and all while the row count is the first one, are judged at once; else one by one.
--- Assumes nothing.
 use mathlib.Core.Path.{_≡_, sym, ap, ap₂, _∙_}
 use mathlib.Core.Bool.{Bool, true, false, not, _&&_}
 use mathlib.Core.List.{List}

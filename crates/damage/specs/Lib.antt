@@ -1,4 +1,3 @@
 -- What the contracts of the damage check cite.
--- Assumes nothing.
 pub mod Numbers
 pub mod Parts

@@ -1,5 +1,4 @@
 -- Number 2 without its sentence on sessions: no number table is damaged.
--- Assumes nothing.
 use mathlib.Core.Bool.{Bool, _&&_}
 use mathlib.Core.List.{List}
 use Prim.Native.Nat.{ℕ}

@@ -1,5 +1,4 @@
 -- The parts into which the code cuts the sentences on slots and vectors.
--- Assumes nothing.
 use mathlib.Core.Bool.{Bool, not, _&&_}
 use mathlib.Core.List.{List}
 use Prim.Native.Nat.{ℕ, _-_, _≤_, _<_}

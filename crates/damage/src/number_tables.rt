@@ -1,5 +1,4 @@
 // The number tables: whether none is damaged.
-// Assumes nothing.
 use crate::clock;
 use crate::slots;
 use crate::vectors;

@@ -1,5 +1,4 @@
 // Number 1: whether every table is lent with room for its full limit.
-// Assumes nothing.
 ghost use mathlib.Core.Path.{_≡_};
 ghost use Rattle.tables.specs.Room.{roomFor};
 

@@ -1,5 +1,4 @@
 // The slots and the heads.
-// Assumes nothing.
 use tables::Stamp;
 use tables::Value;
 ghost use mathlib.Core.Path.{_≡_};

@@ -1,5 +1,4 @@
 // The vectors: no bit at or above the row count at the slot's stamp.
-// Assumes nothing.
 use tables::Row;
 ghost use mathlib.Core.Path.{_≡_};
 ghost use mathlib.Core.Bool.{true};

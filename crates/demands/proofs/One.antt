@@ -1,6 +1,5 @@
 -- DEMAND 1: "Bad input is refused by document 01's numbers, always the smallest that applies; a refusal changes no cell." Every call
 -- is judged alike: a number where one of its conditions holds, its work where none does; and the conditions' numbers rise.
--- Assumes nothing.
 use mathlib.Core.Path.{_≡_, refl, _∙_, sym, ap}
 use mathlib.Core.Bool.{Bool, true, false, not, cond, false≢true}
 use mathlib.Core.Option.{Option, some, none}

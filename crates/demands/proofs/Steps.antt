@@ -1,5 +1,4 @@
 -- On good tables every call follows the rules: the step theorems of the ten calls as one.
--- Assumes nothing.
 use mathlib.Core.Path.{_≡_}
 use Rattle.rules.specs.Step.{step}
 use Rattle.tables.specs.Cells.{Tables}

@@ -1,5 +1,4 @@
 -- DEMAND 3: every call of every run since an accepted create is right in the plain observer's words.
--- Assumes nothing.
 use mathlib.Core.Path.{_≡_, refl, sym, _∙_}
 use mathlib.Core.Bool.{true, false}
 use mathlib.Core.Option.{Option, none, some}

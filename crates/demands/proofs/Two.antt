@@ -1,5 +1,5 @@
 -- DEMAND 2: "Every call answers and writes exactly what 01 says. A column turned into vectors reads back as that column." After a
--- create and a begin, a read of each row gives the column's cell, a query of each value its rows. Assumes nothing.
+-- create and a begin, a read of each row gives the column's cell, a query of each value its rows.
 use mathlib.Core.Path.{_≡_, sym, ap, ap₂, _∙_}
 use mathlib.Core.Bool.{Bool, false, true}
 use mathlib.Core.Option.{none}

@@ -1,5 +1,5 @@
 -- A call as it is made on lent tables, what it comes to, and what its caller is told: by the ten definitions that the outer
--- calls' contracts cite, and by nothing else. Assumes nothing.
+-- calls' contracts cite, and by nothing else.
 use mathlib.Core.List.{List, [], _∷_}
 use Prim.Native.Nat.{ℕ}
 use lib.ListN.{length}

@@ -1,5 +1,4 @@
 -- The refusals of each call on lent tables, as a table in the order in which they are judged: a condition and its number.
--- Assumes nothing.
 use mathlib.Core.Bool.{not}
 use mathlib.Core.List.{List, _∷_}
 use Rattle.rules.specs.Refusals.{Test, tests}

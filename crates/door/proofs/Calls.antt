@@ -4,7 +4,6 @@
 --                          one that the call's definition leaves.        Created      what create says
 --     place-called         `lent::place`
 -- It has what the proof of each call takes from elsewhere.
--- Assumes nothing.
 use mathlib.Core.Path.{_≡_}
 use mathlib.Core.List.{List, [], _∷_}
 use mir.Syntax.{w32, w64}

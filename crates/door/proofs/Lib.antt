@@ -1,5 +1,4 @@
 -- The walk of the doors, what it needs of arrays, and what a call leaves of the sessions.
--- Assumes nothing.
 pub mod OneSeat
 pub mod Arrays
 pub mod Doors

@@ -3,7 +3,6 @@
 --     told             an outcome told with the session table that a program makes of what it had and of that outcome: `oneSeat`, the
 --                      session that stands afterwards at a place, put there; `allSeats`, every place freed where the call is accepted
 --     begin-moves .. abort-moves, create-frees         that table is the one in the outcome of each call's definition
--- Assumes nothing.
 use mathlib.Core.Path.{_≡_, refl, sym, ap, subst, _∙_}
 use mathlib.Core.Bool.{Bool, true, false, cond}
 use mathlib.Core.Option.{Option, none, some, Option·some-ne-none}

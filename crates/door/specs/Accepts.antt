@@ -1,5 +1,4 @@
 -- Which answers are no refusal.
--- Assumes nothing.
 use mathlib.Core.Bool.{Bool, true, false}
 use Rattle.outcomes.specs.Said.{Said, no, numbers, value, words}
 

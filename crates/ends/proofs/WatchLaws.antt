@@ -1,5 +1,4 @@
 -- Bytes that a watch sees go by: piece after piece, and why watches on every place tell which bytes they were.
--- Assumes nothing.
 use mathlib.Core.Path.{_≡_, refl, sym, ap, _∙_}
 use mathlib.Core.Bool.{Bool, true, false, cond, true≢false}
 use mathlib.Core.List.{List, [], _∷_, _++_}

@@ -1,5 +1,4 @@
 -- What the code promises that reads and writes: which bytes were handed over, and which were given.
--- Assumes nothing.
 use mathlib.Core.Path.{_≡_}
 use mathlib.Core.Bool.{Bool, true, _&&_}
 use mathlib.Core.List.{List, [], _++_}

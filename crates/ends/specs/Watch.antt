@@ -1,6 +1,5 @@
 -- Bytes that go by one after another, and a watch on one of them. A contract that holds for every place watched says which bytes went by,
 -- how many, and in which order (`proofs/WatchLaws.antt`, `same-bytes`), where the code that lets them go by keeps none of them.
--- Assumes nothing.
 use mathlib.Core.Bool.{true, false, cond}
 use mathlib.Core.List.{List, [], _∷_}
 use Prim.Native.Nat.{ℕ, _-_}

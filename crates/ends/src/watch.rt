@@ -1,6 +1,6 @@
 // A watch on one byte of those that go by. The language has no values for proofs alone, and no contract can name what the system was handed
 // or gave: so the code that hands bytes over or is given them lets a watch see them, and contracts hold whichever byte is watched. It costs
-// two comparisons a piece. Assumes nothing.
+// two comparisons a piece.
 ghost use mathlib.Core.Path.{_≡_};
 ghost use Prim.Native.Nat.{_≤_};
 ghost use lib.ListN.{length, take};

@@ -1,5 +1,4 @@
 -- Begin and abort follow the rules.
--- Assumes nothing.
 use mathlib.Core.Path.{_≡_, refl, sym, ap, ap₂, _∙_}
 use mathlib.Core.List.{[], _∷_}
 use mathlib.Core.Logic.{inr, ⊎-elim}

@@ -1,5 +1,4 @@
 -- Commit and tidy follow the rules.
--- Assumes nothing.
 use mathlib.Core.Path.{_≡_, refl, ap, _∙_, sym, ap₂, fun-ext}
 use mathlib.Core.List.{[], _∷_, List, _++_}
 use mathlib.Core.Logic.{inl, inr, ⊎-elim}

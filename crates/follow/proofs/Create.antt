@@ -1,5 +1,5 @@
 -- Create follows the rules, from any tables with room, damaged or not: what the cells of tables just made of a column are, that
--- they mean the rules' first state, and that they are good. Assumes nothing.
+-- they mean the rules' first state, and that they are good.
 use mathlib.Core.Path.{_≡_, refl, ap, ap₂, _∙_, fun-ext, sym}
 use mathlib.Core.Bool.{Bool, true, false, cond, _&&_, true≢false}
 use mathlib.Core.Option.{Option, none, some}

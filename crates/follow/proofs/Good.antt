@@ -1,5 +1,5 @@
 -- What good tables have, and what keeps them good when one session is stored; the session that a call is for; and the one lemma
--- that settles the refusals of every call. Assumes nothing.
+-- that settles the refusals of every call.
 use mathlib.Core.Path.{_≡_, _∙_, refl}
 use mathlib.Core.Bool.{true, false}
 use mathlib.Core.List.{List}

@@ -1,5 +1,4 @@
 -- The step theorems: what they share, and each call.
--- Assumes nothing.
 pub mod Good
 pub mod Create
 pub mod Query

@@ -1,6 +1,6 @@
 -- One record more in the log cells, with its changes, and the clock one stamp later, as commit and tidy leave them: what was
 -- there stays, the log that the cells mean grows by that record, and the sentences of "Damaged tables" on the clock, records,
--- changes and sessions hold again. Assumes nothing.
+-- changes and sessions hold again.
 use mathlib.Core.Path.{_≡_, sym, ap₂, _∙_, refl, ap}
 use mathlib.Core.List.{List, [], _∷_, _++_}
 use mathlib.Core.Bool.{true}

@@ -1,6 +1,5 @@
 -- One slot more, at the head of a value, one record later: the slots before it as they were, its cells and its words, the
 -- sentences of "Damaged tables" on slots, heads and vectors, and the chains: that of the value has the new version in front.
--- Assumes nothing.
 use mathlib.Core.Path.{_≡_, refl, sym, _∙_, ap, ap₂}
 use mathlib.Core.Bool.{true}
 use mathlib.Core.List.{List, append-assoc, [], _∷_}

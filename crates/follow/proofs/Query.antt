@@ -1,5 +1,4 @@
 -- Query and read follow the rules: the tables stay, and the words that the picker returns show exactly the rules' rows.
--- Assumes nothing.
 use mathlib.Core.Path.{_≡_, sym, ap, _∙_, refl}
 use mathlib.Core.Bool.{Bool, false, cond}
 use mathlib.Core.Option.{none, some}

@@ -1,5 +1,5 @@
 -- Update, delete and insert follow the rules: one entry of the session's list set. What such a list means, that the session stays
--- as it must be, and what is left of each call: its list, and that the entry fits. Assumes nothing.
+-- as it must be, and what is left of each call: its list, and that the entry fits.
 use mathlib.Core.Path.{_≡_, refl, sym, ap, ap₂, _∙_}
 use mathlib.Core.Bool.{Bool, true, false, not, _&&_, _||_, true≢false}
 use mathlib.Core.Option.{Option, none, some}

@@ -1,5 +1,4 @@
 -- The step statement: a call follows the rules.
--- Assumes nothing.
 use mathlib.Core.Path.{_≡_}
 use Rattle.rules.specs.Calls.{Call}
 use Rattle.rules.specs.Step.{step}

@@ -1,5 +1,4 @@
 -- Tables that no call refuses by 1 or 2, with cells as their types have them.
--- Assumes nothing.
 use mathlib.Core.Path.{_≡_}
 use mathlib.Core.Bool.{true}
 use mathlib.Core.List.{List}

@@ -1,5 +1,4 @@
 -- What the caller of a call hears, in the rules' words: the answer, and of a query the rows of the words that the picker returns.
--- Assumes nothing.
 use mathlib.Core.Option.{Option}
 use mathlib.Core.List.{List, []}
 use Prim.Native.Nat.{ℕ}

@@ -1,5 +1,4 @@
 -- Two change tables that agree up to a place say the same of every stretch up to it: what a commit or a tidy reads while it writes.
--- Assumes nothing.
 use mathlib.Core.Path.{_≡_, ap}
 use mathlib.Core.List.{List}
 use Prim.Native.Nat.{ℕ, _≤_, _<_}

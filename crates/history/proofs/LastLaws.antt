@@ -1,5 +1,5 @@
 -- The last change that names a row: one change more, a block that names it not, and the last change of any stretch up to the same
--- end; the rows that a stretch of changes flips, one change more, and the vector of them, as a loop marks it. Assumes nothing.
+-- end; the rows that a stretch of changes flips, one change more, and the vector of them, as a loop marks it.
 use mathlib.Core.Path.{_≡_, refl, sym, ap, _∙_, ap₂}
 use mathlib.Core.Bool.{Bool, true, false, _||_, cond, or-false}
 use mathlib.Core.Option.{Option, none, some}

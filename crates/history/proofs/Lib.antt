@@ -1,5 +1,4 @@
 -- The laws on what the log and the versions say that belong to no one function.
--- Assumes nothing.
 pub mod VersionLaws
 pub mod LastLaws
 pub mod QueryLaws

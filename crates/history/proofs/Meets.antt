@@ -1,5 +1,4 @@
 -- What the cells say is what the rules say, in all undamaged tables: version, flips, query, flip set and read.
--- Assumes nothing.
 use mathlib.Core.Path.{_≡_, sym, ap, ap₂, _∙_}
 use mathlib.Core.Bool.{Bool, true, cond}
 use mathlib.Core.List.{List}

@@ -1,5 +1,4 @@
 -- A query step by step: the words of a slot, the mask, the flip count, and what is left in the scratch.
--- Assumes nothing.
 use mathlib.Core.Path.{_≡_, sym, ap, ap₂, _∙_}
 use mathlib.Core.Bool.{Bool}
 use mathlib.Core.List.{List, _++_}

@@ -1,5 +1,4 @@
 -- A read step by step; by the last change of the row alone it is the same as by a query of each value.
--- Assumes nothing.
 use mathlib.Core.Path.{_≡_, refl, sym, ap, ap₂, _∙_}
 use mathlib.Core.Bool.{Bool, true, false, not, _&&_, cond, Bool·beq}
 use mathlib.Core.Option.{Option, none, some}

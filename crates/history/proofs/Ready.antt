@@ -1,5 +1,4 @@
 -- What the functions of this crate need, in all undamaged tables with room.
--- Assumes nothing.
 use mathlib.Core.Path.{_≡_}
 use mathlib.Core.Bool.{true}
 use mathlib.Core.List.{List}

@@ -1,5 +1,4 @@
 -- The version search, one step at a time; its slot is at most the one it starts from, and in undamaged tables it is the rules' version.
--- Assumes nothing.
 use mathlib.Core.Path.{_≡_, refl, sym, ap, _∙_}
 use mathlib.Core.Bool.{Bool, true, false, cond}
 use mathlib.Core.List.{List, []}

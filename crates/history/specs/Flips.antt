@@ -1,5 +1,4 @@
 -- The rows that a stretch of changes flips for a value.
--- Assumes nothing.
 use mathlib.Core.Bool.{Bool}
 use mathlib.Core.List.{List}
 use Prim.Native.Nat.{ℕ, _≤_, _<_}

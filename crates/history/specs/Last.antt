@@ -1,5 +1,4 @@
 -- The last of some changes that names a row: its place and its flip set.
--- Assumes nothing.
 use mathlib.Core.Bool.{cond}
 use mathlib.Core.List.{List}
 use Prim.Native.Nat.{ℕ, zero, suc}

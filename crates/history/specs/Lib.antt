@@ -1,5 +1,4 @@
 -- What the contracts of this crate cite.
--- Assumes nothing.
 pub mod Version
 pub mod Last
 pub mod Flips

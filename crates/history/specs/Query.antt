@@ -1,5 +1,4 @@
 -- A query on the cells: what it finds, and what it leaves in the scratch.
--- Assumes nothing.
 use mathlib.Core.Bool.{Bool, cond}
 use mathlib.Core.List.{List}
 use Prim.Native.Nat.{ℕ, _≤_}

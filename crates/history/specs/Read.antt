@@ -1,5 +1,4 @@
 -- What a row holds at a stamp, on the cells.
--- Assumes nothing.
 use mathlib.Core.Bool.{Bool, _&&_}
 use mathlib.Core.List.{List}
 use mathlib.Core.Option.{Option, none, some}

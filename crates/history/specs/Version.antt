@@ -1,5 +1,4 @@
 -- The slot of a value that a stamp sees, on the cells alone: also where a link does not fall, as in damaged tables.
--- Assumes nothing.
 use mathlib.Core.Bool.{cond}
 use mathlib.Core.List.{List}
 use Prim.Native.Nat.{ℕ, zero, suc, _-_, _≤_, _<_}

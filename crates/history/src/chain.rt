@@ -1,5 +1,4 @@
 // The version of a value that a stamp sees: along the links, the slot number falls at each.
-// Assumes nothing.
 use tables::Stamp;
 use tables::Value;
 ghost use mathlib.Core.Path.{_≡_};

@@ -1,5 +1,4 @@
 // The last change that names a row, searched from the end in blocks of 64, and whether any does.
-// Assumes nothing.
 use tables::Row;
 ghost use mathlib.Core.Path.{_≡_};
 ghost use Prim.Native.Nat.{_+_, _≤_};

@@ -1,5 +1,4 @@
 // The rows that a stretch of changes flips for a value, as a vector.
-// Assumes nothing.
 use tables::Value;
 ghost use mathlib.Core.Path.{_≡_};
 ghost use Prim.Native.Nat.{_<_, _≤_};

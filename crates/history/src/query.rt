@@ -1,5 +1,4 @@
 // The query of a value at a stamp.
-// Assumes nothing.
 use crate::chain;
 use crate::mask;
 use crate::vector;

@@ -1,5 +1,4 @@
 // What a row holds at a stamp: its last change is found once, and each value's version is asked whether it came later.
-// Assumes nothing.
 use crate::chain;
 use crate::changes;
 use crate::changes::Last;

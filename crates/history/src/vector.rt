@@ -1,5 +1,4 @@
 // The vector of a slot: a row of it, and a copy of it with rows turned over.
-// Assumes nothing.
 use tables::Row;
 ghost use mathlib.Core.Path.{_≡_};
 ghost use Prim.Native.Nat.{_<_, _≤_};

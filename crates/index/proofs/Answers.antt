@@ -1,5 +1,4 @@
 -- The answer of a call and what a core comes to, as plain data in a walk, and what whoever holds the latter knows of its parts.
--- Assumes nothing.
 use mathlib.Core.List.{[], _∷_}
 use denote.Laws.{Is}
 use denote.Struct.Laws as SLaws

@@ -7,7 +7,6 @@
 --     Seats, Counts, Opens, Puts, Frees, Frees-all       what the thin functions say that a call calls
 --     opened, put-back, freed-up       how a call ends.        Comes-to, Serving, Creating       what a call says, and what its core says
 --     settles          what the core says, and the thin function of its end, give what the call says
--- Assumes nothing.
 pub use mathlib.Core.Path.{_≡_, refl, ap, sym, _∙_}
 use Prim.Native.Nat.{ℕ}
 use mathlib.Core.Bool.{true, false}

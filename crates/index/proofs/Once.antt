@@ -1,6 +1,5 @@
 -- No second outcome meets the contract of a call: what an answer says determines it, and each contract is an equality with what
 -- the tables and numbers passed determine.
--- Assumes nothing.
 use mathlib.Core.Path.{_≡_, refl, sym, _∙_, ap}
 use mathlib.Core.Option.{none, some}
 use mathlib.Core.List.{List, [], _∷_}

@@ -1,6 +1,5 @@
 -- "For each public call, input and refusal, the contract determines the answer and every cell of the lent tables and scratch
 -- afterwards": what that says of a contract.
--- Assumes nothing.
 use mathlib.Core.Path.{_≡_}
 use mathlib.Core.List.{List}
 use Prim.Native.Nat.{ℕ}

@@ -1,7 +1,6 @@
 -- The exports as instances of one walk: the call of the index, and its answer in numbers.
 --     the-numbers, Numbered, numbering     the numbers of an answer as plain data in a walk, and the function that gives them
 --     Seen-of          what an export says: C sees what the call's definition says.        encodes       that it follows
--- Assumes nothing.
 use mathlib.Core.Path.{_≡_, _∙_, ap}
 use mathlib.Core.List.{List, [], _∷_}
 use Prim.Native.Nat.{ℕ}

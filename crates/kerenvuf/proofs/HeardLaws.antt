@@ -1,5 +1,4 @@
 -- Nothing of what a call says is lost in its numbers: what they say, read by their kind, is what the call said.
--- Assumes nothing.
 use mathlib.Core.Path.{_≡_, refl, _∙_, ap}
 use mathlib.Core.Bool.{Bool, true, false, cond}
 use mathlib.Core.Option.{Option, none, some}

@@ -1,5 +1,4 @@
 -- The words that a query picked: the place that a number names, and what is copied.
--- Assumes nothing.
 use mathlib.Core.Path.{_≡_, sym, ap, ap₂, _∙_}
 use mathlib.Core.Bool.{Bool, cond, _&&_, and-false}
 use mathlib.Core.Option.{Option, none, some}

@@ -1,5 +1,4 @@
 -- The numbers in which a call's answer goes to C, what they say, and what C sees of a call.
--- Assumes nothing.
 use mathlib.Core.Path.{_≡_}
 use mathlib.Core.Bool.{Bool, true, false, cond}
 use mathlib.Core.Option.{Option, none, some}

@@ -1,5 +1,4 @@
 -- The words that a query picked, copied to where C lent room for them.
--- Assumes nothing.
 use mathlib.Core.Bool.{cond, _&&_}
 use mathlib.Core.Option.{Option, none, some}
 use mathlib.Core.List.{List}

@@ -1,5 +1,5 @@
 // The ten calls as C calls them: each is the call of the index, and its answer in numbers. What C sees of a call, every lent cell and
-// every number of the answer, is what the call's definition says. Assumes nothing.
+// every number of the answer, is what the call's definition says.
 use crate::in_numbers::KvAnswer;
 use crate::in_numbers::numbers;
 use tables::Session;

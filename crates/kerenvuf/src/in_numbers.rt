@@ -1,4 +1,4 @@
-// A call's answer in numbers, as C reads it. Assumes nothing.
+// A call's answer in numbers, as C reads it.
 use history::Standing;
 use outcomes::Answer;
 use outcomes::Place;

@@ -1,4 +1,4 @@
-// The words that a query picked, copied for C. Assumes nothing.
+// The words that a query picked, copied for C.
 use outcomes::Place;
 ghost use mathlib.Core.Path.{_≡_};
 ghost use Rattle.outcomes.specs.Said.{placeOf};

@@ -1,5 +1,4 @@
 -- The words of a walk, in one place: what the proofs of the functions use of the program logic and of the files beside this one.
--- Assumes nothing.
 pub use mathlib.Core.Path.{_≡_, refl, sym, _∙_, ap, subst}
 pub use Prim.Native.Nat.{ℕ, _<_, _+_, _^_, _*_}
 pub use mathlib.Core.List.{List, [], _∷_}

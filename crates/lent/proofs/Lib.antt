@@ -1,5 +1,4 @@
 -- The laws and the rules of the walks that belong to no one function.
--- Assumes nothing.
 pub mod Data
 pub mod Walks
 pub mod Rules

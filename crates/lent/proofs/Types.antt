@@ -1,5 +1,4 @@
 -- The types of the tables and the seat, as plain data in a walk.
--- Assumes nothing.
 use Rattle.tables.proofs.clock.Clock as C
 use Rattle.tables.proofs.clock.Clock.Laws as CL
 use Rattle.tables.proofs.counts.Stamp as T

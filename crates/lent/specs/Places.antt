@@ -1,5 +1,5 @@
 -- The session at a place of the lent slice, and the slice with a session put at a place or with every place freed: the first 16
--- places are in use, and no other is read or written. Assumes nothing.
+-- places are in use, and no other is read or written.
 use mathlib.Core.Path.{_≡_, refl, sym, _∙_, ap}
 use mathlib.Core.Bool.{Bool, true, false, not, cond, _&&_}
 use mathlib.Core.List.{List}

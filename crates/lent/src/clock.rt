@@ -1,4 +1,4 @@
-// The clock record moves in place. Assumes nothing.
+// The clock record moves in place.
 use tables::Clock;
 use tables::Row;
 ghost use mathlib.Core.Path.{_≡_};

@@ -1,4 +1,4 @@
-// What a call sees of the session table. Assumes nothing.
+// What a call sees of the session table.
 use crate::sessions::all_fit;
 use crate::sessions::place;
 use crate::sessions::places;

@@ -1,4 +1,4 @@
-// The session table: a lent slice of session structs, of which the first 16 places are in use. Assumes nothing.
+// The session table: a lent slice of session structs, of which the first 16 places are in use.
 use tables::Clock;
 use tables::Row;
 use tables::Session;

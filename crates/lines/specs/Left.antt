@@ -1,5 +1,4 @@
 -- What a line leaves of the sixteen sessions: one of them, or that all are free.
--- Assumes nothing.
 use mathlib.Core.Bool.{Bool, true, false, cond}
 use mathlib.Core.List.{List}
 use Prim.Native.Nat.{ℕ}

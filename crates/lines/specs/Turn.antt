@@ -1,5 +1,4 @@
 -- What a line that was read comes to: the call on the tables, as the outer calls' definitions say it, and its answer in the rules' words.
--- Assumes nothing.
 use mathlib.Core.Path.{_≡_}
 use mathlib.Core.Option.{Option, none, some}
 use mathlib.Core.List.{List, map}

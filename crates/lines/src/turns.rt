@@ -2,9 +2,9 @@
 use crate::sessions::Left;
 use crate::sessions::left_at;
 use crate::sessions::none_put;
-use outcomes::Answer;
 use door::Held;
 use door::Sessions;
+use outcomes::Answer;
 use tables::Refusal;
 use text::Request;
 use text::Word;

@@ -1,5 +1,4 @@
 -- Update, delete and insert on the lent tables: what each end of `change_row` and of the three cores comes to.
--- Assumes nothing.
 use mathlib.Core.Path.{_≡_, refl, sym, _∙_}
 use mathlib.Core.Bool.{false}
 use mathlib.Core.Option.{Option}

@@ -1,5 +1,4 @@
 -- Update, delete and insert: what each end of their parts and of their cores comes to.
--- Assumes nothing.
 use mathlib.Core.Path.{_≡_, sym, _∙_}
 use mathlib.Core.Bool.{true, false, and-true, and-false}
 use mathlib.Core.Option.{Option}

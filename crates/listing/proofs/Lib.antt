@@ -1,5 +1,4 @@
 -- The laws of a session's list that belong to no one function.
--- Assumes nothing.
 pub mod BeginLaws
 pub mod ChangeLaws
 pub mod ChangeCores

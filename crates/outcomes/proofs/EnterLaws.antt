@@ -1,5 +1,5 @@
 -- Tables of tests: one that begins with another, and a test that never decides. The shared refusals, a test at a time, as the code
--- judges them. Assumes nothing.
+-- judges them.
 use mathlib.Core.Path.{_≡_, refl, ap, sym, _∙_}
 use mathlib.Core.Bool.{Bool, true, false, cond, not, _&&_}
 use mathlib.Core.Option.{none, some, Option·none-ne-some, Option·some-ne-none, Option}

@@ -1,5 +1,5 @@
 -- What a passed test of `enter` says: of the number tables alone, which is what the code goes on with, and of all tables that show
--- the seat, where the rest of the call's tests decides. Assumes nothing.
+-- the seat, where the rest of the call's tests decides.
 use mathlib.Core.Path.{_≡_, refl, sym, ap, subst, _∙_}
 use mathlib.Core.Bool.{Bool, true, false, not, cond, _&&_, and-comm}
 use mathlib.Core.Option.{none, some, Option·some-ne-none}

@@ -1,5 +1,4 @@
 -- The laws of the definitions, of the shared refusals and of a session that is let in.
--- Assumes nothing.
 pub mod NarrowLaws
 pub mod EnterLaws
 pub mod Entered

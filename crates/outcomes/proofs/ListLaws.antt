@@ -1,5 +1,4 @@
 -- A session's list step by step: where a row stands, what an entry is, and what one entry more adds to the rows and the inserts.
--- Assumes nothing.
 use mathlib.Core.Path.{_≡_, refl, sym, ap, _∙_}
 use mathlib.Core.Bool.{Bool}
 use mathlib.Core.Option.{Option, none, some}

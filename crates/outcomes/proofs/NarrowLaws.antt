@@ -1,6 +1,5 @@
 -- A caller's number and the row or value that it is narrowed to mean the same to every call: both are refused alike where the number
 -- fits no row or value, and else they are one number.
--- Assumes nothing.
 use mathlib.Core.Path.{_≡_, refl, sym, ap, subst, _∙_}
 use mathlib.Core.Bool.{Bool, true, false, cond}
 use mathlib.Core.Option.{some}

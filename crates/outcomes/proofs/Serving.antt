@@ -1,5 +1,4 @@
 -- What a core's end comes to in all tables that show its seat: a refusal, an answer that touches no session, one that seats a session.
--- Assumes nothing.
 use mathlib.Core.Path.{_≡_, refl, sym, ap, _∙_}
 use mathlib.Core.Bool.{Bool, true, false, cond}
 use mathlib.Core.Option.{Option, none, some, Option·some-ne-none}

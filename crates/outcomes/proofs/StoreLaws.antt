@@ -1,5 +1,4 @@
 -- What groups of single stores do to the lent tables: each group touches its own tables only. Changes put from a place on.
--- Assumes nothing.
 use mathlib.Core.Path.{_≡_, refl, ap, _∙_}
 use mathlib.Core.List.{List, [], _∷_, _++_}
 use Prim.Native.Nat.{ℕ, suc, _+_, _≤_, _<_}

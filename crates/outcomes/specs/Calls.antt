@@ -1,5 +1,4 @@
 -- What each call leaves in the lent tables and answers: the refusals, else exactly these stores.
--- Assumes nothing.
 use mathlib.Core.Bool.{cond}
 use mathlib.Core.Option.{Option, none, some}
 use mathlib.Core.List.{List, [], _∷_, _++_, map}

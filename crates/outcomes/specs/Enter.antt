@@ -1,5 +1,4 @@
 -- The refusals that the calls share, as the code judges them from the number tables and a seat.
--- Assumes nothing.
 use mathlib.Core.Bool.{Bool, not, cond, _&&_}
 use mathlib.Core.Option.{Option, none, some}
 use mathlib.Core.List.{List, [], _∷_}

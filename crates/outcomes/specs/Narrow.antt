@@ -1,5 +1,4 @@
 -- A number of a caller as a row or a value: one that fits neither type is the greatest, which no table has.
--- Assumes nothing.
 use mathlib.Core.Bool.{cond}
 use Prim.Native.Nat.{ℕ}
 use lib.Dec.{ltb}

@@ -1,5 +1,4 @@
 -- What a part of a core knows once the core is let in, and what it promises.
--- Assumes nothing.
 use mathlib.Core.Path.{_≡_}
 use mathlib.Core.Bool.{true}
 use mathlib.Core.List.{List, []}

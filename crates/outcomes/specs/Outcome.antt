@@ -1,5 +1,4 @@
 -- What a call comes to: the tables, the further lent buffers and the answer; refusals 1 and 2, then the rules' own.
--- Assumes nothing.
 use mathlib.Core.Bool.{cond}
 use mathlib.Core.Option.{Option, none, some}
 use mathlib.Core.List.{List}

@@ -1,5 +1,4 @@
 -- Query: what it leaves in the tables and in the scratch, and answers; the words that the picker returns.
--- Assumes nothing.
 use mathlib.Core.Bool.{Bool, false, cond, _&&_}
 use mathlib.Core.Option.{Option, none, some}
 use mathlib.Core.List.{List, [], _∷_}

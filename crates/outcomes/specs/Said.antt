@@ -1,5 +1,4 @@
 -- What an answer says: document 01's number and values for each of its cases.
--- Assumes nothing.
 use mathlib.Core.Bool.{Bool}
 use mathlib.Core.Option.{Option, none, some}
 use mathlib.Core.List.{List, [], _∷_}

@@ -1,5 +1,4 @@
 -- What a call sees of the session table, what it does to it, and what a core promises of the whole tables.
--- Assumes nothing.
 use mathlib.Core.Path.{_≡_}
 use mathlib.Core.Bool.{true, false}
 use mathlib.Core.List.{List, []}

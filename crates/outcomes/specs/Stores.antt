@@ -1,5 +1,4 @@
 -- Single stores into the lent tables, applied one after another.
--- Assumes nothing.
 use mathlib.Core.List.{List, [], _∷_}
 use Prim.Native.Nat.{ℕ, _+_}
 use lib.ListN.{set}

@@ -1,5 +1,4 @@
 -- The laws of query and read that belong to no one function.
--- Assumes nothing.
 pub mod ReadLaws
 pub mod QueryLaws
 pub mod PickLaws

@@ -1,5 +1,4 @@
 -- The picker: the part that each of its ends returns.
--- Assumes nothing.
 use mathlib.Core.Path.{_≡_}
 use mathlib.Core.Bool.{and-false}
 use mathlib.Core.List.{List, []}

@@ -1,5 +1,4 @@
 -- The records at once: what each is off by is gathered, modulo 2 ^ 32. Where that is little, the records fit.
--- Assumes nothing.
 use mathlib.Core.Path.{_≡_, refl, sym, ap, _∙_}
 use mathlib.Core.Bool.{Bool, true, _&&_, _||_}
 use mathlib.Core.List.{List}

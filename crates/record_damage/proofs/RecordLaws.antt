@@ -1,5 +1,4 @@
 -- The records by what the code reads of them: record 1 against the first row count, each later one against the one before.
--- Assumes nothing.
 use mathlib.Core.Path.{_≡_, refl, sym, ap, ap₂, _∙_}
 use mathlib.Core.Bool.{Bool, _&&_, _||_, and-true}
 use mathlib.Core.List.{List}

@@ -1,5 +1,4 @@
 -- The parts into which the code cuts the sentences on records.
--- Assumes nothing.
 use mathlib.Core.Bool.{cond}
 use Prim.Native.Nat.{ℕ, _+_, _-_, _≤_, _<_}
 use lib.Dec.{leb}

@@ -1,6 +1,6 @@
 -- THE HEART. The log and the versions agree with the plain column at every moment: the log and the observer's events keep pace,
 -- which concerns rows; one value's versions and the log, which concerns one chain; all of them together, and a read as the plain
--- column's cell; and a creation from an accepted column, where they agree. Kept by one more record. Assumes nothing.
+-- column's cell; and a creation from an accepted column, where they agree. Kept by one more record.
 use mathlib.Core.Path.{_≡_, sym, _∙_, refl}
 use mathlib.Core.Bool.{false, Bool, true, cond, _||_}
 use mathlib.Core.Option.{none, some, Option, Option·none-ne-some}

@@ -1,5 +1,5 @@
 -- A commit, and a tidy that is not stale, keep the agreement of log, versions and events. The heart of a commit is proved on the
--- flip sets at the present stamp; where nothing conflicts, those at the start are the same. Assumes nothing.
+-- flip sets at the present stamp; where nothing conflicts, those at the start are the same.
 use mathlib.Core.Path.{_≡_, refl, sym, ap, _∙_}
 use mathlib.Core.Bool.{Bool, true, false, _||_, cond, or-false, or-true, true≢false, false≢true, not, _&&_}
 use mathlib.Core.Option.{Option, none, some, Option·getD, Option·map, Option·none-ne-some, Option·some-injective}

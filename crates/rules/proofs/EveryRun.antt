@@ -1,5 +1,5 @@
 -- Demand 3 over every run: what each accepted call answers is what the observer says, a commit is refused for conflict exactly
--- where the observer says so, and so each call of any run is right, in the plain observer's words. Assumes nothing.
+-- where the observer says so, and so each call of any run is right, in the plain observer's words.
 use mathlib.Core.Path.{_≡_, refl, sym, ap, ap₂, _∙_}
 use mathlib.Core.Bool.{Bool, true, false, true≢false, false≢true, cond}
 use mathlib.Core.Option.{Option, none, some, Option·none-ne-some}

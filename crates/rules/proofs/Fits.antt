@@ -1,5 +1,5 @@
 -- A log that fits: its row counts never pass the last one, and its flip sets are below C and of rows below that count. Chains
--- and sessions that fit it fit the log with one record more. Assumes nothing.
+-- and sessions that fit it fit the log with one record more.
 use mathlib.Core.Path.{_≡_, refl, sym, ap, _∙_}
 use mathlib.Core.Bool.{Bool, true, false, cond}
 use mathlib.Core.Option.{Option, none, some}

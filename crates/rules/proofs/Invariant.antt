@@ -1,5 +1,5 @@
 -- What number 2's sentences, where none of them fails, give of the state that the tables mean: an invariant of every call. It is
--- not the decision of number 2, which is over cells (`sound` of `tables`). Assumes nothing.
+-- not the decision of number 2, which is over cells (`sound` of `tables`).
 use mathlib.Core.Path.{_≡_}
 use mathlib.Core.Bool.{false}
 use mathlib.Core.Option.{Option, none, some}

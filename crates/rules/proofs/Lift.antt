@@ -1,5 +1,4 @@
 -- The lifting theorem: work on anything whose steps are the rules' steps on what it means is right in every run.
--- Assumes nothing.
 use mathlib.Core.Path.{_≡_, refl, ap, ap₂, _∙_}
 use mathlib.Core.Bool.{false}
 use mathlib.Core.List.{List, [], _∷_}

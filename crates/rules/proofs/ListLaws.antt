@@ -1,5 +1,4 @@
 -- A session's list: what `put` and one more insert do to it.
--- Assumes nothing.
 use mathlib.Core.Path.{_≡_, refl, sym, _∙_}
 use mathlib.Core.Bool.{Bool, true, false, not, _&&_, _||_, cond, true≢false}
 use mathlib.Core.Option.{Option, none, some}

@@ -1,6 +1,5 @@
 -- The log's stretches, and the flip sets at a stamp: what the other proofs know of how the log lies. Beside this file only
 -- Fits.antt unfolds `stampOf`, `upTo`, `above`, `between`, `grown` or `allChanges`. And the version of a value at a stamp.
--- Assumes nothing.
 use mathlib.Core.Path.{_≡_, refl, sym, ap, _∙_}
 use mathlib.Core.Bool.{false, Bool, true, cond}
 use mathlib.Core.Option.{Option, none, some, Option·getD}

@@ -1,5 +1,5 @@
 -- The number that a refusal gives: the first test of the call's table that holds has it, and no test with a smaller number
--- holds. A refused call changes nothing, and no accepted call answers a number of a refusal. Assumes nothing.
+-- holds. A refused call changes nothing, and no accepted call answers a number of a refusal.
 use mathlib.Core.Path.{_≡_, refl, sym, ap, ap₂, _∙_}
 use mathlib.Core.Bool.{Bool, true, false, cond, false≢true}
 use mathlib.Core.Option.{Option, none, some, Option·none-ne-some, Option·some-injective}

@@ -1,6 +1,6 @@
 -- The plain observer's replay: what one more event does to the column, to the last tidy and to the rows touched. And the joint of
 -- the rules' list and the observer's wishes: the list keeps one entry a row where it stands, the wishes stand as they came, and
--- both ask for the same. Assumes nothing.
+-- both ask for the same.
 use mathlib.Core.Path.{_≡_, refl, sym, ap, _∙_}
 use mathlib.Core.Bool.{Bool, true, false, _||_, cond, or-true, or-assoc, or-false, false≢true}
 use mathlib.Core.Option.{none, Option, some}

@@ -1,5 +1,4 @@
 -- The rules and the plain observer keep in step over any run of calls.
--- Assumes nothing.
 use mathlib.Core.Path.{_≡_, refl, sym, _∙_}
 use mathlib.Core.Bool.{false, true≢false}
 use mathlib.Core.Option.{Option, none, some}

@@ -1,5 +1,4 @@
 -- The rules' definitions in the shapes that loops compute: a scan of changes, records or entries, one more of them at a time.
--- Assumes nothing.
 use mathlib.Core.Path.{_≡_, refl, sym, ap, ap₂, _∙_}
 use mathlib.Core.Bool.{Bool, true, false, _||_, cond, or-assoc, or-comm, or-false}
 use mathlib.Core.Option.{Option, some}

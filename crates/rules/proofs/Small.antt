@@ -1,5 +1,4 @@
 -- Small laws on tests, on answers that may be missing, and on lists with one more at the end.
--- Assumes nothing.
 use mathlib.Core.Path.{_≡_, refl, sym, _∙_}
 use mathlib.Core.Bool.{Bool, true, false, _||_, true≢false}
 use mathlib.Core.Option.{Option, none, some}

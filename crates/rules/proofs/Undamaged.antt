@@ -1,5 +1,4 @@
 -- Every call keeps the tables undamaged, from whatever undamaged tables it is made.
--- Assumes nothing.
 use mathlib.Core.Path.{_≡_, refl, sym, _∙_}
 use mathlib.Core.Bool.{true, false, true≢false}
 use mathlib.Core.Option.{Option, none, some}

@@ -1,5 +1,4 @@
 -- Commit: the new flip sets, the changes of its record, and the conflict test.
--- Assumes nothing.
 use mathlib.Core.Bool.{Bool, false, _||_}
 use mathlib.Core.Option.{Option, none, some}
 use mathlib.Core.List.{List, [], _∷_, _++_}

@@ -1,5 +1,4 @@
 -- What demand 3 claims of a call and its answer, in the plain observer's words, before the observer takes note of them.
--- Assumes nothing.
 use mathlib.Core.Path.{_≡_}
 use mathlib.Core.Bool.{Bool, true}
 use mathlib.Core.Option.{Option, some}

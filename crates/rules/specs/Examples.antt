@@ -1,5 +1,4 @@
 -- The run printed in document 01, its continuations P6 to P9, and the statement of the examples marked P as one table.
--- Assumes nothing.
 use mathlib.Core.Path.{_≡_}
 use mathlib.Core.Bool.{false}
 use mathlib.Core.Option.{some}

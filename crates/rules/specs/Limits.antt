@@ -1,5 +1,4 @@
 -- The limits of document 01, each under a name of its own.
--- Assumes nothing.
 use Prim.Native.Nat.{ℕ}
 
 -- "C from 1 to 32"

@@ -1,5 +1,4 @@
 -- A session's list: what it lists for a row, how an entry is put, and the inserts.
--- Assumes nothing.
 use mathlib.Core.Bool.{Bool, false, _||_, cond}
 use mathlib.Core.Option.{Option, none, some}
 use mathlib.Core.List.{List, [], _∷_}

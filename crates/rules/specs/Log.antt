@@ -1,5 +1,4 @@
 -- The log: its stretches, the last change that names a row, and the flip set of a row at a stamp.
--- Assumes nothing.
 use mathlib.Core.Bool.{Bool, false, _||_, cond}
 use mathlib.Core.Option.{Option, none, some}
 use mathlib.Core.List.{List, [], _∷_, _++_}

@@ -1,5 +1,4 @@
 -- "an accepted tidy moved": the rows that the plain observer notes of a tidy are document 01's moved rows, and those of its record.
--- Assumes nothing.
 use mathlib.Core.Path.{_≡_}
 use mathlib.Core.Bool.{true}
 use mathlib.Core.List.{List, map, List·Memᴰ}

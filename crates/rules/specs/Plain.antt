@@ -1,5 +1,5 @@
 -- The plain observer of demand 3. It sees the calls and their answers, and nothing else: it has no log, no flip set, no
--- version and no list, and shares no function on lists with the rules. Assumes nothing.
+-- version and no list, and shares no function on lists with the rules.
 use mathlib.Core.Bool.{Bool, false, _||_, cond}
 use mathlib.Core.Option.{Option, none, some}
 use mathlib.Core.List.{List, [], _∷_, _++_}

@@ -1,5 +1,4 @@
 -- The refusals of each call, as a table in the order in which they are judged: a test and its number.
--- Assumes nothing.
 use mathlib.Core.Path.{_≡_}
 use mathlib.Core.Bool.{Bool, true, false, not, _&&_, _||_, cond}
 use mathlib.Core.Option.{Option, none, some}

@@ -1,5 +1,4 @@
 -- What the index holds, free of any table: the log, the versions of each value, the sessions, and the clock's counts.
--- Assumes nothing.
 use mathlib.Core.Bool.{Bool, true, false}
 use mathlib.Core.Option.{Option}
 use mathlib.Core.List.{List, []}

@@ -1,5 +1,4 @@
 -- What an accepted call does and answers, one call whole, and a run of calls with its transcript.
--- Assumes nothing.
 use mathlib.Core.Option.{Option, none, some}
 use mathlib.Core.List.{List, [], _∷_, _++_}
 use Prim.Native.Nat.{ℕ, suc, _+_}

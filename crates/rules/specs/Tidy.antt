@@ -1,5 +1,4 @@
 -- Tidy: the rows it moves, when it is stale, and the changes of its record.
--- Assumes nothing.
 use mathlib.Core.Bool.{Bool, true, false, _||_}
 use mathlib.Core.List.{List, map}
 use Prim.Native.Nat.{ℕ}

@@ -1,5 +1,4 @@
 -- What a session sees: the version of a value at its start, the query, the flip count, and the read of a row.
--- Assumes nothing.
 use mathlib.Core.Bool.{Bool, false, cond}
 use mathlib.Core.Option.{Option}
 use mathlib.Core.List.{List, [], _∷_}

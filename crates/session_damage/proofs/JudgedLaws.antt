@@ -1,5 +1,4 @@
 -- A session as the code judges it, and what that says of sound tables.
--- Assumes nothing.
 use mathlib.Core.Path.{_≡_, sym, ap, _∙_}
 use mathlib.Core.Bool.{Bool, true, false, not, _&&_, _||_, and-false, or-false}
 use mathlib.Core.List.{List}

@@ -1,5 +1,4 @@
 -- The laws of a session's judgement that belong to no one function.
--- Assumes nothing.
 pub mod StartLaws
 pub mod OnceLaws
 pub mod EntryLaws

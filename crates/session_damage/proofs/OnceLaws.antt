@@ -1,5 +1,4 @@
 -- "listed once" by the rows that were seen: after i entries, a row's bit is set exactly if one of them has it.
--- Assumes nothing.
 use mathlib.Core.Path.{_≡_, refl, sym, ap, ap₂, _∙_, subst}
 use mathlib.Core.Bool.{Bool, true, false, not, _&&_, _||_, cond, and-true, or-true}
 use mathlib.Core.List.{List}

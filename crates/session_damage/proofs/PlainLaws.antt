@@ -1,5 +1,4 @@
 -- A plain list: rows below the row count with targets below C, and no two rows that end in the same six bits. It fits.
--- Assumes nothing.
 use mathlib.Core.Path.{_≡_, sym, ap, _∙_}
 use mathlib.Core.Bool.{Bool, true, false, not, _&&_, _||_, true≢false}
 use mathlib.Core.List.{List}

@@ -1,5 +1,4 @@
 -- A session as it is judged before the rest of the tables is: what the log and the clock must be to hold its start and its rows.
--- Assumes nothing.
 use mathlib.Core.Bool.{Bool, _&&_, _||_}
 use mathlib.Core.List.{List}
 use Prim.Native.Nat.{ℕ}

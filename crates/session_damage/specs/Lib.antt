@@ -1,4 +1,3 @@
 -- What the contracts of the judgement of one session cite.
--- Assumes nothing.
 pub mod Parts
 pub mod Judged

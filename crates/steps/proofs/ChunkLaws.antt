@@ -1,5 +1,4 @@
 -- The lines of a chunk, answered one after another as far as there is room.
--- Assumes nothing.
 use mathlib.Core.Path.{_≡_, refl, sym, ap, ap₂, _∙_}
 use mathlib.Core.Bool.{Bool, true, false, _&&_, and-eq-true-iff}
 use mathlib.Core.List.{List, [], _++_, map, append-assoc, append-nil}

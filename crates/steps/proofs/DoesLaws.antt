@@ -1,5 +1,4 @@
 -- Lines done one piece of input after another, and the lines of the whole input.
--- Assumes nothing.
 use mathlib.Core.Path.{_≡_, refl, sym, ap, ap₂, subst, _∙_}
 use mathlib.Core.Bool.{Bool, true, false, true≢false}
 use mathlib.Core.List.{List, [], _∷_, _++_, map, append-assoc, append-nil, cons-ne-nil, head-eq-of-cons-eq, tail-eq-of-cons-eq}

@@ -1,5 +1,4 @@
 -- The lent tables and buffers keep their lengths, turn after turn of a loop.
--- Assumes nothing.
 use mathlib.Core.Path.{_≡_, refl, _∙_}
 use mathlib.Core.List.{List}
 use Prim.Native.Nat.{ℕ, _≤_}

@@ -1,5 +1,4 @@
 -- Lines answered one after another: what they leave and the bytes of their answers.
--- Assumes nothing.
 use mathlib.Core.List.{List, [], _∷_, _++_}
 use Prim.Native.Nat.{ℕ}
 use Rattle.tables.specs.Cells.{Tables}

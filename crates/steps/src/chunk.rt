@@ -1,4 +1,4 @@
-// The lines of a chunk of the input, answered. Assumes nothing.
+// The lines of a chunk of the input, answered.
 use lines::Lined;
 use lines::Sessions;
 use text::Fed;

@@ -1,5 +1,4 @@
 -- What the readers and writers of cells use: a cell one place before, and a clock that may be too short.
--- Assumes nothing.
 use mathlib.Core.Path.{_≡_, sym, ap, _∙_}
 use mathlib.Core.Bool.{Bool, cond}
 use mathlib.Core.List.{List}

@@ -1,5 +1,4 @@
 -- The versions along the links: one slot after another, whatever the bound on their number, and the newest of a value.
--- Assumes nothing.
 use mathlib.Core.Path.{_≡_, refl, sym, ap, ap₂, _∙_}
 use mathlib.Core.Bool.{Bool, true, cond}
 use mathlib.Core.List.{List, [], _∷_}

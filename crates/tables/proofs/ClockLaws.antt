@@ -1,5 +1,4 @@
 -- The clock's limits at the numbers that the code copied.
--- Assumes nothing.
 use mathlib.Core.Path.{_≡_, ap}
 use mathlib.Core.Bool.{true}
 use mathlib.Core.List.{List}

@@ -1,5 +1,4 @@
 -- What tables that are not refused by 1 and 2 have, as facts on numbers: room, clock, records and changes.
--- Assumes nothing.
 use mathlib.Core.Path.{_≡_, sym, ap, _∙_}
 use mathlib.Core.Bool.{Bool, true, _||_}
 use mathlib.Core.List.{List}

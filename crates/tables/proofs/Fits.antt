@@ -1,5 +1,4 @@
 -- The rules' conditions on changes, records, versions and entries, over stretches of the cells that have them.
--- Assumes nothing.
 use mathlib.Core.Path.{_≡_, sym, ap, _∙_}
 use mathlib.Core.Bool.{Bool, true, false, cond}
 use mathlib.Core.Option.{none, some}

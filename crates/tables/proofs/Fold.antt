@@ -1,5 +1,4 @@
 -- A test at every place of a stretch, as the loops meet it: the whole is what was found so far and the rest from here on.
--- Assumes nothing.
 use mathlib.Core.Path.{_≡_, sym, ap, _∙_}
 use mathlib.Core.Bool.{Bool, true, false, not, _&&_, _||_, and-true, and-assoc}
 use mathlib.Core.Logic.{_⊎_, inl, inr}

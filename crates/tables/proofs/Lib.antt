@@ -1,5 +1,4 @@
 -- The laws on the lent tables that belong to no one function.
--- Assumes nothing.
 pub mod Access
 pub mod Stretch
 pub mod Tests

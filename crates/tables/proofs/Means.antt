@@ -1,5 +1,5 @@
 -- What the lent tables mean: the log's stretches are stretches of the change table; the chain of a value and the session at a
--- place are those of its cells. Assumes nothing.
+-- place are those of its cells.
 use mathlib.Core.Path.{_≡_, refl, sym, ap, _∙_}
 use mathlib.Core.Bool.{Bool, true, false, not, cond, true≢false}
 use mathlib.Core.List.{List, [], _∷_, _++_}

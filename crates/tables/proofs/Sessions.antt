@@ -1,5 +1,4 @@
 -- What sessions that are not damaged have, as facts on numbers: free and all 0, or open.
--- Assumes nothing.
 use mathlib.Core.Path.{_≡_, refl, ap}
 use mathlib.Core.Bool.{Bool, true, not, _&&_, _||_}
 use mathlib.Core.List.{List}

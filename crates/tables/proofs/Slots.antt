@@ -1,5 +1,4 @@
 -- What slots, heads and vectors that are not damaged have, as facts on numbers.
--- Assumes nothing.
 use mathlib.Core.Path.{_≡_, sym, ap, _∙_, subst}
 use mathlib.Core.Bool.{true, false, not}
 use mathlib.Core.List.{List}

@@ -1,5 +1,4 @@
 -- What the readers see after the writers: the stored cells, and the others as they were.
--- Assumes nothing.
 use mathlib.Core.Path.{_≡_, refl, ap, ap₂, _∙_}
 use mathlib.Core.Bool.{true}
 use mathlib.Core.List.{List, [], _∷_, _++_}

@@ -1,5 +1,4 @@
 -- Laws of a stretch of places: none, one more, two joined, its elements.
--- Assumes nothing.
 use mathlib.Core.Path.{_≡_, sym, ap, _∙_}
 use mathlib.Core.List.{List, [], _∷_, _++_, append-nil, append-assoc}
 use mathlib.Core.Logic.{_⊎_, inl, inr, ⊎-elim, _≢_}

@@ -1,5 +1,4 @@
 -- Where each number lies: the lent tables as one record, and the cells of each by name.
--- Assumes nothing.
 use mathlib.Core.List.{List}
 use Prim.Native.Nat.{ℕ, zero, suc, _+_, _*_}
 use lib.ListN.{getD, take, drop}

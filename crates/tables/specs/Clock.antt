@@ -1,5 +1,4 @@
 -- The clock record: of the lent cells, and one stamp later.
--- Assumes nothing.
 use mathlib.Core.Bool.{cond}
 use mathlib.Core.List.{List}
 use Prim.Native.Nat.{ℕ, _+_}

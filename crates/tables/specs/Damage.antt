@@ -1,5 +1,4 @@
 -- Number 2: document 01's section "Damaged tables", a definition for each of its sentences, over the cells.
--- Assumes nothing.
 use mathlib.Core.Bool.{Bool, not, _&&_, _||_, cond}
 use mathlib.Core.List.{List}
 use Prim.Native.Nat.{ℕ, suc, _+_, _-_, _^_}

@@ -1,5 +1,4 @@
 -- What the lent tables mean: a state of the rules.
--- Assumes nothing.
 use mathlib.Core.Bool.{cond}
 use mathlib.Core.Option.{Option, none, some}
 use mathlib.Core.List.{List, [], _∷_}

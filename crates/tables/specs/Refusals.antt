@@ -1,5 +1,4 @@
 -- Document 01's number of each reason for a refusal.
--- Assumes nothing.
 use Prim.Native.Nat.{ℕ}
 use Rattle.tables.specs.declared.refusal.Refusal.{Refusal}
 use Rattle.tables.specs.declared.refusal.Refusal.the-variants.{NoRoom, Damaged, BadColumn, NoSession, NotOpen, NoValue, NoRow, RowAbsent, ListFull, ShortScratch, ListEmpty, Conflict, NothingToMove, Stale, RowsFull, RecordsFull, ChangesFull, SlotsFull, Unreadable}

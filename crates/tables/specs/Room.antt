@@ -1,5 +1,4 @@
 -- Number 1: "clock, versions, heads, log, changes or sessions lent without room for its full limit".
--- Assumes nothing.
 use mathlib.Core.Bool.{Bool, _&&_}
 use mathlib.Core.List.{List}
 use Prim.Native.Nat.{ℕ, _≤_}

@@ -1,5 +1,4 @@
 -- The session struct: free, just opened, with an entry set; the session at a place of the table.
--- Assumes nothing.
 use mathlib.Core.List.{List}
 use Prim.Native.Nat.{ℕ}
 use lib.ListN.{getD, set, replicate}

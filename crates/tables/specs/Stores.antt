@@ -1,5 +1,4 @@
 -- What the writers leave in the cells: single stores, one after another.
--- Assumes nothing.
 use mathlib.Core.List.{List}
 use Prim.Native.Nat.{ℕ, _+_}
 use lib.ListN.{set}

@@ -1,5 +1,4 @@
 -- A stretch of places.
--- Assumes nothing.
 use mathlib.Core.List.{List}
 use Prim.Native.Nat.{ℕ, _+_, _-_}
 use Rattle.bits.specs.Tab.{tab}

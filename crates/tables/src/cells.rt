@@ -1,5 +1,4 @@
 // Slots, heads, records and changes: where each number lies. The tables are kept by column, so that no index needs a product.
-// Assumes nothing.
 use crate::counts::Row;
 use crate::counts::Stamp;
 use crate::counts::Value;

@@ -1,4 +1,4 @@
-// The clock: one record of four numbers, and two counts beside it in the same table. Assumes nothing.
+// The clock: one record of four numbers, and two counts beside it in the same table.
 use crate::counts::Row;
 use crate::counts::Stamp;
 use crate::counts::Value;
@@ -80,7 +80,8 @@ pub fn advanced(c: Clock, rows: Row) -> Clock
 // The clock's record, the slots and the changes in use are written.
 pub fn put_clock(clock: &mut [u32], c: Clock, slots: u32, changes: u32)
     requires { ⌜ 6 ≤ length (now clock) ⌝ }
-    ensures { λ _. ⌜ now (clock .exit) ≡ putClock (now (clock .entry)) (c .values .0) (c .first .0) (c .stamp .0) (c .rows .0) slots changes ⌝ }
+    ensures { λ _. ⌜ now (clock .exit) ≡ putClock (now (clock .entry))
+        (c .values .0) (c .first .0) (c .stamp .0) (c .rows .0) slots changes ⌝ }
 {
     let values = c.values;
     let first = c.first;

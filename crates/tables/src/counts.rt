@@ -1,4 +1,4 @@
-// The three separate counts of document 01: no function takes one where another is meant. Assumes nothing.
+// The three separate counts of document 01: no function takes one where another is meant.
 
 // A moment: how many commits and tidies were accepted.
 #[repr(C)]

@@ -1,4 +1,4 @@
-// The limits of document 01, each under a name of its own, and how many cells the tables have by them. Assumes nothing.
+// The limits of document 01, each under a name of its own, and how many cells the tables have by them.
 
 // C from 1 to 32; a flip set has 32 values.
 pub const MAX_VALUES: u32 = 32;

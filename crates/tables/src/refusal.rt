@@ -1,4 +1,4 @@
-// Why a call refuses, and document 01's number of each reason. Assumes nothing.
+// Why a call refuses, and document 01's number of each reason.
 ghost use mathlib.Core.Path.{_≡_};
 ghost use Rattle.tables.specs.Refusals.{numberOf};
 

@@ -1,4 +1,4 @@
-// One session, by value. Assumes nothing.
+// One session, by value.
 use crate::counts::Row;
 use crate::counts::Stamp;
 ghost use mathlib.Core.Path.{_≡_};

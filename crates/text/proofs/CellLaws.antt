@@ -1,5 +1,4 @@
 -- Laws of the fields of a column: a number up to 254, `-`, a short field, and what each is at its place.
--- Assumes nothing.
 use mathlib.Core.Path.{_≡_, refl, sym, ap, _∙_}
 use mathlib.Core.List.{List, [], _∷_}
 use mathlib.Core.Bool.{Bool, true, false, and-false}

@@ -1,6 +1,5 @@
 -- Chunking does not matter: two chunks are read as one, its lines are those of the input, and a buffer of one byte more than the longest
 -- line holds enough of each.
--- Assumes nothing.
 use mathlib.Core.Path.{_≡_, refl, sym, ap, _∙_}
 use mathlib.Core.Bool.{Bool, true, false, cond}
 use mathlib.Core.List.{List, [], _∷_, _++_, append-assoc, append-nil, map, map-append}

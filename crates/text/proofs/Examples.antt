@@ -1,5 +1,4 @@
 -- Lines and answers of document 01, lines that are none, and an input's lines: the definitions compute them.
--- Assumes nothing.
 use mathlib.Core.Path.{_≡_, refl}
 use mathlib.Core.Bool.{true, false}
 use mathlib.Core.List.{List, [], _∷_, map}

@@ -1,5 +1,4 @@
 -- Laws of a field that was read after a place, or was not: `say` is how it is read, r what was read.
--- Assumes nothing.
 use mathlib.Core.Path.{_≡_, refl, sym, ap, _∙_}
 use mathlib.Core.List.{List, [], _∷_}
 use mathlib.Core.Logic.{_⊎_, inl, inr}

@@ -1,5 +1,4 @@
 -- Laws of a whole line: a request by the word's numbers asks for what the line means.
--- Assumes nothing.
 use mathlib.Core.Path.{_≡_, refl, sym, ap, _∙_}
 use mathlib.Core.List.{List, [], _∷_, map}
 use mathlib.Core.Bool.{Bool, true, false, cond}

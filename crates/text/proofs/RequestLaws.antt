@@ -1,5 +1,4 @@
 -- Laws of a request: its numbers read one after another, and a column's.
--- Assumes nothing.
 use mathlib.Core.Path.{_≡_, refl, sym, _∙_}
 use mathlib.Core.List.{List}
 use mathlib.Core.Option.{Option, none, some}

@@ -1,5 +1,4 @@
 -- Cells of one byte each: spaces and cells that take turns, and the loop that stores the cells.
--- Assumes nothing.
 use mathlib.Core.Path.{_≡_, refl, sym, ap, _∙_}
 use mathlib.Core.List.{List, [], _∷_}
 use mathlib.Core.Bool.{Bool, true, false, _&&_, _||_, cond, true≢false, and-eq-true-iff}

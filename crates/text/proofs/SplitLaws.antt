@@ -1,5 +1,4 @@
 -- Laws of the parts of a list of bytes by their places: the split from a place on, and one byte more of a part.
--- Assumes nothing.
 use mathlib.Core.Path.{_≡_, refl, sym, _∙_}
 use mathlib.Core.List.{List, [], _∷_}
 use mathlib.Core.Bool.{Bool, true, false}

@@ -1,5 +1,4 @@
 -- What a request asks for, and what the code answers for a line: the request, and the bytes that it stores.
--- Assumes nothing.
 use mathlib.Core.Path.{_≡_}
 use mathlib.Core.Bool.{cond}
 use mathlib.Core.List.{List, [], _∷_, map}

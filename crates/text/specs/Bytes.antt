@@ -1,5 +1,4 @@
 -- Texts as lists of bytes, and whether two lists of bytes are the same.
--- Assumes nothing.
 use mathlib.Core.Bool.{Bool, true, false, _&&_}
 use mathlib.Core.List.{List, [], _∷_}
 use Prim.Native.Nat.{ℕ}

@@ -1,5 +1,4 @@
 -- The values of a column as bytes: a value, or 255 for absent.
--- Assumes nothing.
 use mathlib.Core.Path.{_≡_}
 use mathlib.Core.Bool.{cond}
 use mathlib.Core.List.{List, [], _∷_}

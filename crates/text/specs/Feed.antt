@@ -1,5 +1,4 @@
 -- An input that comes in chunks: the lines that a chunk ends, and the bytes that wait for their newline.
--- Assumes nothing.
 use mathlib.Core.Path.{_≡_}
 use mathlib.Core.Bool.{Bool, true, false, cond, _||_}
 use mathlib.Core.List.{List, [], _∷_, _++_, map}

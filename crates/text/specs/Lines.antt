@@ -1,5 +1,4 @@
 -- The lines of an input: what "It reads lines from standard input" means for the input as one list of bytes.
--- Assumes nothing.
 use mathlib.Core.List.{List, [], _∷_, _++_}
 use Prim.Native.Nat.{ℕ}
 use Rattle.text.specs.Split.{split, newline}

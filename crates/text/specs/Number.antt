@@ -1,5 +1,4 @@
 -- A field as a number: "numbers have 1 to 4 digits". Leading zeros are digits too: `0003` is 3, `00003` is no number.
--- Assumes nothing.
 use mathlib.Core.Bool.{Bool, true, cond, _&&_}
 use mathlib.Core.List.{List, [], _∷_}
 use mathlib.Core.Option.{Option, none, some}

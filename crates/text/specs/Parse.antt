@@ -1,5 +1,5 @@
 -- What a line of bytes, without its newline, asks for: the reading half of document 01's "The step program".
--- A line that means none is refused by 19. Assumes nothing.
+-- A line that means none is refused by 19.
 use mathlib.Core.Bool.{cond}
 use mathlib.Core.List.{List, [], _∷_}
 use mathlib.Core.Option.{Option, none, some}

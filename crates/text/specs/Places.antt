@@ -1,5 +1,4 @@
 -- The parts of a list of bytes by their places, for code that goes along the bytes, and a field read at a place.
--- Assumes nothing.
 use mathlib.Core.Bool.{cond}
 use mathlib.Core.List.{List, [], _∷_}
 use mathlib.Core.Option.{Option, none, some}

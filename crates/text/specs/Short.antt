@@ -1,5 +1,4 @@
 -- Cells of one byte each: a digit, or `-`, after each space.
--- Assumes nothing.
 use mathlib.Core.Path.{_≡_}
 use mathlib.Core.Bool.{Bool, true, _||_, cond}
 use mathlib.Core.List.{List}

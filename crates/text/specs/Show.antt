@@ -1,5 +1,4 @@
 -- An answer as bytes, without its newline: the writing half of document 01's "The step program".
--- Assumes nothing.
 use mathlib.Core.Bool.{Bool, true, false, cond}
 use mathlib.Core.List.{List, [], _∷_, _++_}
 use mathlib.Core.Option.{none, some}

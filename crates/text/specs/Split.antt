@@ -1,5 +1,4 @@
 -- A list of bytes split at a byte: a line into its fields (at the space), an input into its lines (at the newline).
--- Assumes nothing.
 use mathlib.Core.Bool.{cond}
 use mathlib.Core.List.{List, [], _∷_}
 use Prim.Native.Nat.{ℕ}

@@ -1,5 +1,4 @@
 -- The word that a field is, as the code's type, and how many numbers it takes.
--- Assumes nothing.
 use mathlib.Core.Bool.{Bool, true, false}
 use mathlib.Core.List.{List}
 use Prim.Native.Nat.{ℕ}

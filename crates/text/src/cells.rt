@@ -1,5 +1,4 @@
 // The values of a column.
-// Assumes nothing.
 use crate::fields;
 use crate::fields::Field;
 ghost use mathlib.Core.Path.{_≡_};

@@ -1,5 +1,4 @@
 // Lines gathered from chunks.
-// Assumes nothing.
 use crate::fields;
 ghost use mathlib.Core.Path.{_≡_};
 ghost use Prim.Native.Nat.{_+_, _<_, _≤_, min};

@@ -1,5 +1,4 @@
 // The request of a word, by the fields after it.
-// Assumes nothing.
 use crate::cells;
 use crate::cells::Cells;
 use crate::fields;

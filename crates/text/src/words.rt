@@ -1,5 +1,4 @@
 // The word that a line starts with.
-// Assumes nothing.
 ghost use mathlib.Core.Path.{_≡_};
 ghost use Rattle.text.specs.Bytes.{same};
 ghost use Rattle.text.specs.Words.{wordOf, laterWord, arityOf};

@@ -1,5 +1,4 @@
 -- The changes of moved rows as loops put them: a row, the rows of a word, the rows of a vector.
--- Assumes nothing.
 use mathlib.Core.Path.{_≡_, refl, sym, ap, _∙_, subst, fun-ext}
 use mathlib.Core.Bool.{true, true≢false}
 use mathlib.Core.List.{List, [], _∷_, _++_, map, map-append}

@@ -1,5 +1,4 @@
 -- The new slot of a tidy: the words of a version, the vector queried, and the slot's own 32 words among all.
--- Assumes nothing.
 use mathlib.Core.Path.{_≡_, sym, ap, ap₂, _∙_}
 use mathlib.Core.Bool.{Bool}
 use mathlib.Core.List.{List}

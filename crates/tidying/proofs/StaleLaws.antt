@@ -1,5 +1,4 @@
 -- Whether a tidy is stale, a change at a time, and its other tests; in undamaged tables they are the rules' own.
--- Assumes nothing.
 use mathlib.Core.Path.{_≡_, sym, ap, _∙_}
 use mathlib.Core.Bool.{Bool, true, false, _||_, or-true}
 use mathlib.Core.Option.{Option}

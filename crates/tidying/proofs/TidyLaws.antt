@@ -1,5 +1,4 @@
 -- A tidy as a whole: its record and clock, all tables after it, and what the call comes to.
--- Assumes nothing.
 use mathlib.Core.Path.{_≡_, refl, sym, ap, ap₂, _∙_, subst}
 use mathlib.Core.Option.{Option, none, some}
 use mathlib.Core.List.{List, [], _∷_}

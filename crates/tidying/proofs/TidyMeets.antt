@@ -1,5 +1,4 @@
 -- In undamaged tables the tests of a tidy are the rules' own, and the cells that it leaves are those of its stores.
--- Assumes nothing.
 use mathlib.Core.Path.{_≡_, refl, sym, ap, ap₂, _∙_, fun-ext}
 use mathlib.Core.Bool.{Bool, true, _||_, or-assoc}
 use mathlib.Core.List.{List, [], _∷_, _++_, map, append-assoc}

@@ -1,5 +1,4 @@
 -- Tidy on the cells: its tests, its changes, its slot, its record, and what each part of it needs.
--- Assumes nothing.
 use mathlib.Core.Path.{_≡_}
 use mathlib.Core.Bool.{Bool, _||_}
 use mathlib.Core.List.{List, [], _∷_, map}

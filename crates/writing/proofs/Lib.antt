@@ -1,5 +1,4 @@
 -- The laws of what is written that belong to no one function.
--- Assumes nothing.
 pub mod ShowLaws
 pub mod WroteLaws
 pub mod RowLaws

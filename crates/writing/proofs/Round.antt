@@ -1,5 +1,4 @@
 -- What is written is read back: a number below 10,000, and the numbers of an answer.
--- Assumes nothing.
 use mathlib.Core.Path.{_≡_, refl, _∙_}
 use mathlib.Core.Bool.{true, false, and-eq-true-iff}
 use mathlib.Core.List.{List, [], _∷_, _++_, append-nil, map}

@@ -1,5 +1,4 @@
 -- Laws of the rows of a vector, a word at a time, and from one set bit of a word to the next.
--- Assumes nothing.
 use mathlib.Core.Path.{_≡_, refl, sym, ap, ap₂, _∙_}
 use mathlib.Core.List.{List, [], _∷_, _++_, append-assoc, append-nil, map, map-append}
 use mathlib.Core.Bool.{Bool, true, false, cond, true≢false}

@@ -1,5 +1,4 @@
 -- Laws of bytes written one after another: digits, numbers, answers.
--- Assumes nothing.
 use mathlib.Core.Path.{_≡_, ap, _∙_}
 use mathlib.Core.List.{List, [], _∷_, _++_}
 use mathlib.Core.Option.{none}

@@ -1,5 +1,4 @@
 -- Bytes written into lent bytes from a place on, and the digits that are written at once.
--- Assumes nothing.
 use mathlib.Core.Path.{_≡_}
 use mathlib.Core.Bool.{cond}
 use mathlib.Core.List.{List, [], _∷_, _++_, map}

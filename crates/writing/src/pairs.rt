@@ -1,5 +1,4 @@
 // Numbers written two digits at a time, from a text of the numbers below 100.
-// Assumes nothing.
 use crate::digits;
 ghost use mathlib.Core.Path.{_≡_};
 ghost use Prim.Native.Nat.{_+_, _<_, _≤_};

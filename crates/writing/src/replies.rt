@@ -1,5 +1,4 @@
 // An answer written as bytes.
-// Assumes nothing.
 use crate::digits;
 ghost use mathlib.Core.List.{[], _∷_};
 ghost use mathlib.Core.Option.{none};

@@ -1,5 +1,4 @@
 // The answer of query: its rows are printed from the words of the vector.
-// Assumes nothing.
 use crate::digits;
 use crate::pairs;
 use crate::replies;

@@ -1,5 +1,4 @@
 -- `alike_by` meets its contract: a search; the record that it stands at has the row count of the first.
--- Assumes nothing.
 use mathlib.Core.Path.{_≡_, refl}
 use Prim.Native.Nat.{_-_, _≤_, _<_}
 use native.Mathlib.Omega.{arith}

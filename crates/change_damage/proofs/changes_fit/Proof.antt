@@ -1,5 +1,4 @@
 -- `changes_fit` meets its contract: all sets at once, and the rows of each record.
--- Assumes nothing.
 use native.Mathlib.Omega.{arith}
 use borrow.Author.Needs.{needs}
 use Rattle.tables.proofs.ClockLaws.{low-records, low-sets}

@@ -1,5 +1,4 @@
 -- `gathered` meets its contract: a fold over the halves.
--- Assumes nothing.
 use mathlib.Core.Path.{_≡_}
 use Prim.Native.Nat.{_+_, _-_, _/_, _≤_}
 use native.Mathlib.Omega.{arith}

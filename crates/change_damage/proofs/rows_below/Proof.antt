@@ -1,5 +1,4 @@
 -- `rows_below` meets its contract: against 2,048 by the bits of all rows together, else one by one, from an earlier change on.
--- Assumes nothing.
 use borrow.Author.Needs.{needs}
 use Rattle.change_damage.proofs.ChangeLaws.{early-start}
 use Rattle.change_damage.proofs.GatherLaws.{rows-gathered}

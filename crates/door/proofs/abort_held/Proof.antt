@@ -1,5 +1,4 @@
 -- `abort_held` meets its contract: it is an instance of the walk of the doors, at the index's `abort`.
--- Assumes nothing.
 use Rattle.door.proofs.Calls.{held-call, tables-in-front, here, Comes-to, unseen, Held-to, back, place-called, aborts, abort-moves}
 use Rattle.index.proofs.abort.Symbol as call-def
 use Rattle.index.proofs.abort.Met as call-thm

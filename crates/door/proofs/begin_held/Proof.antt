@@ -1,5 +1,4 @@
 -- `begin_held` meets its contract: it is an instance of the walk of the doors, at the index's `begin`.
--- Assumes nothing.
 use Rattle.door.proofs.Calls.{held-call, tables-in-front, here, Comes-to, unseen, Held-to, back, place-called, begins, begin-moves}
 use Rattle.index.proofs.begin.Symbol as call-def
 use Rattle.index.proofs.begin.Met as call-thm

@@ -1,5 +1,4 @@
 -- `commit_held` meets its contract: it is an instance of the walk of the doors, at the index's `commit`.
--- Assumes nothing.
 use Rattle.door.proofs.Calls.{held-call, tables-in-front, here, Comes-to, unseen, Held-to, back, place-called, commits, commit-moves}
 use Rattle.index.proofs.commit.Symbol as call-def
 use Rattle.index.proofs.commit.Met as call-thm

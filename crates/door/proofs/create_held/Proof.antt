@@ -1,5 +1,4 @@
 -- `create_held` meets its contract: it is an instance of the walk of the doors, at the index's `create`.
--- Assumes nothing.
 use Rattle.door.proofs.Calls.{only-call, tables-in-front, Comes-to, unseen, Created, told, allSeats, creates, create-frees}
 use Rattle.index.proofs.create.Symbol as call-def
 use Rattle.index.proofs.create.Met as call-thm

@@ -1,5 +1,4 @@
 -- `delete_held` meets its contract: it is an instance of the walk of the doors, at the index's `delete`.
--- Assumes nothing.
 use Rattle.door.proofs.Calls.{held-call, tables-in-front, here, Comes-to, unseen, Held-to, back, place-called, deletes, delete-moves}
 use Rattle.index.proofs.delete.Symbol as call-def
 use Rattle.index.proofs.delete.Met as call-thm

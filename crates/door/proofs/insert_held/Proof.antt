@@ -1,5 +1,4 @@
 -- `insert_held` meets its contract: it is an instance of the walk of the doors, at the index's `insert`.
--- Assumes nothing.
 use Rattle.door.proofs.Calls.{held-call, tables-in-front, here, Comes-to, unseen, Held-to, back, place-called, inserts, insert-moves}
 use Rattle.index.proofs.insert.Symbol as call-def
 use Rattle.index.proofs.insert.Met as call-thm

@@ -1,5 +1,4 @@
 -- `query_held` meets its contract: it is an instance of the walk of the doors, at the index's `query`.
--- Assumes nothing.
 use Rattle.door.proofs.Calls.{held-call, tables-in-front, here, next-to, Comes-to, unseen, Held-to, back, place-called, asks}
 use Rattle.door.proofs.Calls.{query-moves}
 use Rattle.index.proofs.query.Symbol as call-def

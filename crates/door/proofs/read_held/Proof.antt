@@ -1,5 +1,4 @@
 -- `read_held` meets its contract: it is an instance of the walk of the doors, at the index's `read`.
--- Assumes nothing.
 use Rattle.door.proofs.Calls.{held-call, tables-in-front, here, Comes-to, unseen, Held-to, back, place-called, reads, read-moves}
 use Rattle.index.proofs.read.Symbol as call-def
 use Rattle.index.proofs.read.Met as call-thm

@@ -1,5 +1,4 @@
 -- `tidy_held` meets its contract: it is an instance of the walk of the doors, at the index's `tidy`.
--- Assumes nothing.
 use Rattle.door.proofs.Calls.{held-call, tables-in-front, here, Comes-to, unseen, Held-to, back, place-called, tidies, tidy-moves}
 use Rattle.index.proofs.tidy.Symbol as call-def
 use Rattle.index.proofs.tidy.Met as call-thm

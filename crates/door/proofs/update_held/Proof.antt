@@ -1,5 +1,4 @@
 -- `update_held` meets its contract: it is an instance of the walk of the doors, at the index's `update`.
--- Assumes nothing.
 use Rattle.door.proofs.Calls.{held-call, tables-in-front, here, Comes-to, unseen, Held-to, back, place-called, updates, update-moves}
 use Rattle.index.proofs.update.Symbol as call-def
 use Rattle.index.proofs.update.Met as call-thm

@@ -1,5 +1,4 @@
 -- `goes` meets its contract.
--- Assumes nothing.
 use borrow.Author.Needs.{needs}
 use Rattle.ends.specs.Ends.{goesOn}
 use Rattle.ends.proofs.goes.Statement.{statement}

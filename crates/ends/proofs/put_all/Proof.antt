@@ -1,5 +1,4 @@
 -- `put_all` meets its contract: at the loop's head, the system has taken the first `at` bytes.
--- Assumes nothing.
 use native.Mathlib.Omega.{arith}
 use borrow.Author.Needs.{needs}
 use Rattle.ends.proofs.EndsLaws.{Putting, putting-none, putting-more, putting-room, putting-end}

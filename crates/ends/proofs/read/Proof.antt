@@ -1,5 +1,4 @@
 -- `read` meets its contract: at the loop's head, the buffer has its length.
--- Assumes nothing.
 use mathlib.Core.Path.{_≡_, refl, _∙_}
 use mathlib.Core.Bool.{true}
 use Prim.Native.Nat.{_<_}

@@ -1,5 +1,4 @@
 -- `later_record_fits` meets its contract: the record before lies one cell before.
--- Assumes nothing.
 use borrow.Author.Needs.{needs}
 use Rattle.record_damage.proofs.RecordLaws.{later-record}
 use Rattle.record_damage.proofs.later_record_fits.Statement.{statement}

@@ -1,5 +1,4 @@
 -- `later_records_close` meets its contract: a fold that gathers what the records are off by.
--- Assumes nothing.
 use Prim.Native.Nat.{_-_, _≤_}
 use native.Mathlib.Omega.{arith}
 use borrow.Author.Needs.{needs}

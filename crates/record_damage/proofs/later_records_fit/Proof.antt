@@ -1,5 +1,4 @@
 -- `later_records_fit` meets its contract: at once, or one by one.
--- Assumes nothing.
 use borrow.Author.Needs.{needs}
 use Rattle.record_damage.proofs.CloseLaws.{close-records}
 use Rattle.record_damage.proofs.later_records_fit.Statement.{statement}

@@ -1,5 +1,4 @@
 -- `later_records_fit_each` meets its contract: a fold; the whole is what was found so far and the rest.
--- Assumes nothing.
 use mathlib.Core.Path.{_≡_, refl}
 use mathlib.Core.Bool.{_&&_}
 use Prim.Native.Nat.{_-_, _≤_}

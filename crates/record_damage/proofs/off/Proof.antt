@@ -1,5 +1,4 @@
 -- `off` meets its contract.
--- Assumes nothing.
 use native.Mathlib.Omega.{arith}
 use borrow.Author.Needs.{needs}
 use Rattle.record_damage.proofs.CloseLaws.{gap-above, gap-below}

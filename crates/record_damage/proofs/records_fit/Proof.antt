@@ -1,5 +1,4 @@
 -- `records_fit` meets its contract: record 1, the later ones, and where the last one ends.
--- Assumes nothing.
 use native.Mathlib.Omega.{arith}
 use borrow.Author.Needs.{needs}
 use Rattle.tables.proofs.ClockLaws.{low-stamp, low-records}

@@ -1,5 +1,4 @@
 -- `entries_fit` meets its contract: the limits, each entry, and that each row is listed once.
--- Assumes nothing.
 use native.Mathlib.Omega.{arith}
 use borrow.Author.Needs.{needs}
 use Rattle.session_damage.proofs.EntryLaws.{long-list, many-rows, many-values, bad-entry, rows-in-vector, short-list, once-decides}

@@ -1,5 +1,4 @@
 -- `entry_fits` meets its contract: the definition itself.
--- Assumes nothing.
 use mathlib.Core.Path.{refl}
 use Rattle.tables.specs.Damage.{entryFits}
 use Rattle.session_damage.proofs.entry_fits.Statement.{statement}

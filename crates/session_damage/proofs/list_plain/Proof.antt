@@ -1,5 +1,4 @@
 -- `list_plain` meets its contract: a fold that carries the bits that were seen.
--- Assumes nothing.
 use Prim.Native.Nat.{_-_, _≤_}
 use native.Mathlib.Omega.{arith}
 use borrow.Author.Needs.{needs}

@@ -1,5 +1,4 @@
 -- `list_zero` meets its contract: a fold that gathers the rows in one number and the targets in another.
--- Assumes nothing.
 use mathlib.Core.Path.{_≡_}
 use Prim.Native.Nat.{_-_, _≤_}
 use native.Mathlib.Omega.{arith}

@@ -1,5 +1,4 @@
 -- `listed_once` meets its contract: a scan that keeps the rows it has seen; the whole is the rest from here on.
--- Assumes nothing.
 use mathlib.Core.Path.{_≡_}
 use mathlib.Core.Logic.{⊎-elim}
 use Prim.Native.Nat.{_-_}

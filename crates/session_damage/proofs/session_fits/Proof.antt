@@ -1,5 +1,4 @@
 -- `session_fits` meets its contract: a free session, and an open one by its start and its entries.
--- Assumes nothing.
 use borrow.Author.Needs.{needs}
 use Rattle.session_damage.proofs.JudgedLaws.{free-judged, bad-start, entries-decide}
 use Rattle.session_damage.proofs.session_fits.Statement.{statement}

@@ -1,5 +1,4 @@
 -- `session_zero` meets its contract: four cells and the list.
--- Assumes nothing.
 use borrow.Author.Needs.{needs}
 use Rattle.session_damage.proofs.EntryLaws.{zero-session}
 use Rattle.session_damage.proofs.session_zero.Statement.{statement}

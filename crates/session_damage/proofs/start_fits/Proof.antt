@@ -1,5 +1,4 @@
 -- `start_fits` meets its contract: the stamp, the log, and the row count of that moment.
--- Assumes nothing.
 use borrow.Author.Needs.{needs}
 use Rattle.session_damage.proofs.StartLaws.{late-start, high-start, short-log, known-start}
 use Rattle.session_damage.proofs.start_fits.Statement.{statement}

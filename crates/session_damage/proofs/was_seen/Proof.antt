@@ -1,5 +1,4 @@
 -- `was_seen` meets its contract: the test is the definition of `bit`.
--- Assumes nothing.
 use mathlib.Core.Path.{refl}
 use borrow.Author.Needs.{needs}
 use Rattle.bits.specs.Bit.{bit}

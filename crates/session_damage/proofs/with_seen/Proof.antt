@@ -1,5 +1,4 @@
 -- `with_seen` meets its contract: `1 << k` is 2 ^ k.
--- Assumes nothing.
 use Prim.Native.Nat.{_%_}
 use native.Mathlib.Omega.{arith}
 use borrow.Author.Needs.{needs}

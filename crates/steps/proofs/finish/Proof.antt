@@ -1,5 +1,4 @@
 -- `finish` meets its contract.
--- Assumes nothing.
 use mathlib.Core.Path.{refl, sym, _∙_}
 use mathlib.Core.Bool.{and-eq-true-iff}
 use borrow.Author.Needs.{needs}

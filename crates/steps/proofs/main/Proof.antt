@@ -1,5 +1,4 @@
 -- `main` meets its contract: every table starts from zeros.
--- Assumes nothing.
 use mathlib.Core.Path.{refl}
 use borrow.Author.Needs.{needs}
 use Rattle.steps.specs.Program.{zeros}

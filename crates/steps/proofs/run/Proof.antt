@@ -1,5 +1,4 @@
 -- `run` meets its contract: at the loop's head, the bytes that the reads gave are gone through.
--- Assumes nothing.
 use mathlib.Core.Path.{_≡_, refl, _∙_}
 use mathlib.Core.Bool.{true}
 use Prim.Native.Nat.{_<_, _≤_}

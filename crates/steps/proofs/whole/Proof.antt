@@ -1,5 +1,4 @@
 -- `whole` meets its contract: at the loop's head, the lines done so far are the first of the chunk's, and their answers were handed over.
--- Assumes nothing.
 use mathlib.Core.Path.{refl, _∙_}
 use Prim.Native.Nat.{_-_, _≤_}
 use native.Mathlib.Omega.{arith}

@@ -1,5 +1,4 @@
 -- `bits::columns::gather` meets its contract.
--- Assumes nothing.
 use Rattle.bits.proofs.ColumnLaws.{front-words, gather-none, gather-all}
 use native.Mathlib.Omega.{arith}
 use borrow.Author.Needs.{needs}

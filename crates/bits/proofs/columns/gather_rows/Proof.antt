@@ -1,6 +1,5 @@
 -- `bits::columns::gather_rows` meets its contract. The invariant is what it needs, with k for `from`.
 -- The measure is what is left of the rows.
--- Assumes nothing.
 use mathlib.Core.Path.{_≡_}
 use Prim.Native.Nat.{_-_}
 use borrow.Author.Needs.{needs}

@@ -1,6 +1,5 @@
 -- `bits::columns::set_columns` meets its contract. The invariant: the rows of the words before i are set.
 -- The measure is what is left of the column.
--- Assumes nothing.
 use mathlib.Core.Path.{_≡_}
 use Prim.Native.Nat.{_*_, _/_, _%_, _-_, _≤_}
 use native.Mathlib.Omega.{arith}

@@ -1,6 +1,5 @@
 -- `bits::columns::set_word` meets its contract. The invariant: the rows of the values below v are set.
 -- The measure is what is left of the values.
--- Assumes nothing.
 use Prim.Native.Nat.{_-_, _/_, _≤_}
 use native.Mathlib.Omega.{arith}
 use borrow.Author.Needs.{needs}

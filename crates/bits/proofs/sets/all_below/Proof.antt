@@ -1,5 +1,4 @@
 -- `bits::sets::all_below` meets its contract. Below 32, nothing is left of the set above c; from 32 on every set is below.
--- Assumes nothing.
 use mathlib.Core.Path.{sym}
 use native.Mathlib.Omega.{arith}
 use borrow.Author.Needs.{needs}

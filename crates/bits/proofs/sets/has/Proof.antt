@@ -1,5 +1,4 @@
 -- `bits::sets::has` meets its contract. The test is the definition of `bit`.
--- Assumes nothing.
 use mathlib.Core.Path.{refl}
 use borrow.Author.Needs.{needs}
 use Rattle.bits.specs.Bit.{bit}

@@ -1,5 +1,4 @@
 -- `bits::sets::toggle` meets its contract. `1 << v` is 2 ^ v, and the rest is the definition of `flipBit`.
--- Assumes nothing.
 use mathlib.Core.Path.{ap}
 use borrow.Author.Needs.{needs}
 use lib.Bits.{bitXor}

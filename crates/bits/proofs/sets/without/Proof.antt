@@ -1,5 +1,4 @@
 -- `bits::sets::without` meets its contract. `1 << v` is 2 ^ v, and the rest is the definition of `clearBit`.
--- Assumes nothing.
 use mathlib.Core.Path.{ap}
 use Prim.Native.Nat.{ℕ}
 use borrow.Author.Needs.{needs}

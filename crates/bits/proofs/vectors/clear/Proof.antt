@@ -1,5 +1,4 @@
 -- `bits::vectors::clear` meets its contract. The invariant: the words before i are 0. The measure is what is left of the words.
--- Assumes nothing.
 use mathlib.Core.Bool.{false}
 use Prim.Native.Nat.{_-_}
 use borrow.Author.Needs.{needs}

@@ -1,5 +1,4 @@
 -- `bits::vectors::copy` meets its contract. The invariant: the words before i are those of `src`. The measure is what is left of the words.
--- Assumes nothing.
 use mathlib.Core.List.{List}
 use mathlib.Core.Path.{ap, _∙_, sym}
 use Prim.Native.Nat.{ℕ, _-_}

@@ -1,5 +1,4 @@
 -- `bits::vectors::count` meets its contract. The invariant: n is how many rows of the words before i are set. The measure is what is left of the words.
--- Assumes nothing.
 use mathlib.Core.Path.{_≡_, ap, _∙_, sym}
 use Prim.Native.Nat.{ℕ, _*_, _+_, _-_, _≤_}
 use native.Mathlib.Omega.{arith}

@@ -1,5 +1,4 @@
 -- `bits::vectors::get` meets its contract. Within the words the test is the definition of `bitAt`; past them no row is set.
--- Assumes nothing.
 use mathlib.Core.Path.{refl, sym}
 use native.Mathlib.Omega.{arith}
 use borrow.Author.Needs.{needs}

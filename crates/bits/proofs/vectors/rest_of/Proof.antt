@@ -1,5 +1,4 @@
 -- `bits::vectors::rest_of` meets its contract. The invariant: `all` is the OR of the words from `from` to j of the vector. The measure is what is left of the 32 words.
--- Assumes nothing.
 use mathlib.Core.Path.{_≡_}
 use Prim.Native.Nat.{_+_, _-_, _*_, _≤_}
 use borrow.Author.Needs.{needs}

@@ -1,5 +1,4 @@
 -- `bits::vectors::with_bit` meets its contract. `1 << k` is 2 ^ k, and each branch is the definition of `setBit` or `clearBit`.
--- Assumes nothing.
 use borrow.Author.Needs.{needs}
 use Rattle.bits.specs.Bit.{setBit, clearBit}
 use Rattle.bits.proofs.BitLaws.{one-shl}

@@ -1,5 +1,4 @@
 -- `bits::vectors::xor_into` meets its contract. The invariant: the words before i are those of `xorWords`. The measure is what is left of the words.
--- Assumes nothing.
 use mathlib.Core.Path.{ap, _∙_, sym}
 use Prim.Native.Nat.{_-_}
 use borrow.Author.Needs.{needs}

@@ -1,5 +1,4 @@
 -- `bits::vectors::zero_from` meets its contract. The invariant: `all` is the OR of the words from `from` to i. The measure is what is left of the words.
--- Assumes nothing.
 use mathlib.Core.Path.{_≡_, ap, _∙_}
 use Prim.Native.Nat.{ℕ, _-_, _≤_}
 use native.Mathlib.Omega.{arith}

@@ -1,5 +1,4 @@
 -- `clash::any_named` meets its contract: the changes of the records after the start are one stretch.
--- Assumes nothing.
 use borrow.Author.Needs.{needs}
 use Rattle.committing.proofs.ClashLaws.{end-low, whole-named}
 use Rattle.committing.proofs.clash.any_named.Statement.{statement}

@@ -1,5 +1,4 @@
 -- `clash::clash` meets its contract: the whole is what the records, and the entries of this one, from here on say.
--- Assumes nothing.
 use mathlib.Core.Path.{_≡_, refl}
 use mathlib.Core.Bool.{false}
 use Prim.Native.Nat.{_-_, _≤_}

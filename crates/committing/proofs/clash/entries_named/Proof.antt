@@ -1,5 +1,4 @@
 -- `clash::entries_named` meets its contract: the whole is what the entries from here on say.
--- Assumes nothing.
 use mathlib.Core.Path.{_≡_, refl}
 use Prim.Native.Nat.{_-_}
 use native.Mathlib.Omega.{arith}

@@ -1,5 +1,4 @@
 -- `clash::entry_named` meets its contract: an insert is never named; a row is where a change names it.
--- Assumes nothing.
 use borrow.Author.Needs.{needs}
 use Rattle.committing.proofs.ClashLaws.{insert-unnamed, row-named}
 use Rattle.committing.proofs.clash.entry_named.Statement.{statement}

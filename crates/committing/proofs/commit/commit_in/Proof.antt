@@ -1,5 +1,4 @@
 -- `commit::commit_in` meets its contract: refused by the shared tests, or the rest of the call decides.
--- Assumes nothing.
 use borrow.Author.Needs.{needs}
 use Rattle.outcomes.proofs.OpenLaws.{opened-usable}
 use Rattle.committing.proofs.CommitCores.{commit-refused, commit-on}

@@ -1,5 +1,4 @@
 -- `commit::commit_now` meets its contract: refused, or what is written is what the rules store.
--- Assumes nothing.
 use borrow.Author.Needs.{needs}
 use Rattle.committing.proofs.CommitTests.{commit-asked}
 use Rattle.committing.proofs.CommitCores.{now-ready, now-refused, now-done}

@@ -1,5 +1,4 @@
 -- `commit::ready` meets its contract: one law for each test that holds, and one where none does.
--- Assumes nothing.
 use borrow.Author.Needs.{needs}
 use Rattle.committing.proofs.CommitTests.{list-empty, list-clashes, rows-pass, records-full, changes-pass, commit-passes}
 use Rattle.committing.proofs.CommitTests.{ready-searched, ready-rows-few}

@@ -1,5 +1,4 @@
 -- `writes::commit_work` meets its contract: the changes, then the record.
--- Assumes nothing.
 use borrow.Author.Needs.{needs}
 use Rattle.committing.proofs.CommitWork.{work-clock, work-log, work-stamp, work-rows-few, work-done}
 use Rattle.committing.proofs.writes.commit_work.Statement.{statement}

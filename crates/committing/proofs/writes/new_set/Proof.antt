@@ -1,5 +1,4 @@
 -- `writes::new_set` meets its contract: the set at the start, its read and its target toggled.
--- Assumes nothing.
 use borrow.Author.Needs.{needs}
 use Rattle.committing.proofs.WriteLaws.{new-readable, new-is}
 use Rattle.committing.proofs.writes.new_set.Statement.{statement}

@@ -1,5 +1,4 @@
 -- `writes::toggled` meets its contract: a set has 32 values.
--- Assumes nothing.
 use borrow.Author.Needs.{needs}
 use Rattle.committing.proofs.WriteLaws.{toggled-absent, toggled-low, toggled-high}
 use Rattle.committing.proofs.writes.toggled.Statement.{statement}

@@ -1,5 +1,4 @@
 -- `writes::write_changes` meets its contract: the rows, and after them the inserts.
--- Assumes nothing.
 use borrow.Author.Needs.{needs}
 use Rattle.committing.proofs.CommitWork.{work-clock, work-rows, work-inserts, work-changes}
 use Rattle.committing.proofs.writes.write_changes.Statement.{statement}

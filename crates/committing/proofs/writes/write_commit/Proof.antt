@@ -1,5 +1,4 @@
 -- `writes::write_commit` meets its contract: the record, and the clock one stamp later.
--- Assumes nothing.
 use borrow.Author.Needs.{needs}
 use Rattle.committing.proofs.WriteLaws.{tick-low, record-low, recorded-is}
 use Rattle.committing.proofs.writes.write_commit.Statement.{statement}

@@ -1,5 +1,4 @@
 -- `writes::write_insert` meets its contract: one change stored.
--- Assumes nothing.
 use borrow.Author.Needs.{needs}
 use Rattle.committing.proofs.writes.write_insert.Statement.{statement}
 use Rattle.committing.proofs.writes.write_insert.Tie as tie

@@ -1,5 +1,4 @@
 -- `writes::write_row` meets its contract: one change stored.
--- Assumes nothing.
 use borrow.Author.Needs.{needs}
 use Rattle.committing.proofs.WriteLaws.{row-written}
 use Rattle.committing.proofs.writes.write_row.Statement.{statement}

@@ -1,5 +1,4 @@
 -- `writes::write_rows` meets its contract: the rows among the first i entries are stored.
--- Assumes nothing.
 use mathlib.Core.Path.{_≡_, refl}
 use mathlib.Core.Logic.{⊎-elim}
 use Prim.Native.Nat.{_+_, _-_, _≤_}

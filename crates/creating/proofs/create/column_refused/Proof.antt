@@ -1,5 +1,4 @@
 -- `create::column_refused` meets its contract.
--- Assumes nothing.
 use Rattle.creating.proofs.CreateLaws.{bad-none, bad-many, bad-long, bad-bytes}
 use borrow.Author.Needs.{needs}
 use Rattle.creating.proofs.create.column_refused.Statement.{statement}

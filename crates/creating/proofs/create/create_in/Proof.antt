@@ -1,5 +1,4 @@
 -- `create::create_in` meets its contract.
--- Assumes nothing.
 use Rattle.creating.proofs.CreateLaws.{create-no-room, create-refused, creatable, create-done}
 use borrow.Author.Needs.{needs}
 use Rattle.creating.proofs.create.create_in.Statement.{statement}

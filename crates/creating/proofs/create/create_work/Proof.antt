@@ -1,5 +1,4 @@
 -- `create::create_work` meets its contract.
--- Assumes nothing.
 use Rattle.creating.proofs.CreateLaws.{front-length, front-needs, create-made}
 use borrow.Author.Needs.{needs}
 use Rattle.creating.proofs.create.create_work.Statement.{statement}

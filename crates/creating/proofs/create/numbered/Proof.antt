@@ -1,6 +1,5 @@
 -- `create::numbered` meets its contract. Both loops fill by `below`: the cells before i are done, from whatever was there before the first.
 -- The measures are what is left of the values, and of the n.
--- Assumes nothing.
 use mathlib.Core.Path.{_≡_}
 use mathlib.Core.List.{List}
 use Prim.Native.Nat.{ℕ, _-_, _≤_}

@@ -1,5 +1,4 @@
 -- `create::write_columns` meets its contract.
--- Assumes nothing.
 use Rattle.creating.proofs.CreateLaws.{columns-written}
 use borrow.Author.Needs.{needs}
 use Rattle.creating.proofs.create.write_columns.Statement.{statement}

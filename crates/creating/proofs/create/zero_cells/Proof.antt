@@ -1,5 +1,4 @@
 -- `create::zero_cells` meets its contract. Cells numbered by no value are zeros.
--- Assumes nothing.
 use borrow.Author.Needs.{needs}
 use Rattle.creating.proofs.CreateLaws.{zeros-made}
 use Rattle.creating.proofs.create.zero_cells.Statement.{statement}

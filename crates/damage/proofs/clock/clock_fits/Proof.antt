@@ -1,5 +1,4 @@
 -- `clock_fits` meets its contract: the eight comparisons, in the order of the definition.
--- Assumes nothing.
 use mathlib.Core.Path.{refl}
 use borrow.Author.Needs.{needs}
 use Rattle.rules.specs.Limits.{maxValues, maxRows, maxSlots, maxRecords, maxChanges}

@@ -1,5 +1,4 @@
 -- `numbers_fit` meets its contract: a table at a time; each next one may rely on those before it.
--- Assumes nothing.
 use native.Mathlib.Omega.{arith}
 use borrow.Author.Needs.{needs}
 use Rattle.tables.proofs.Tests.{found-true}

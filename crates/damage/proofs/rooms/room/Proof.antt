@@ -1,5 +1,4 @@
 -- `room` meets its contract: the seven lengths, compared in the order of the definition.
--- Assumes nothing.
 use mathlib.Core.Path.{refl}
 use Rattle.tables.specs.Room.{roomFor}
 use Rattle.damage.proofs.rooms.room.Statement.{statement}

@@ -1,5 +1,4 @@
 -- `first_slot_fits` meets its contract: three comparisons.
--- Assumes nothing.
 use borrow.Author.Needs.{needs}
 use Rattle.damage.proofs.SlotLaws.{first-slot}
 use Rattle.damage.proofs.slots.first_slot_fits.Statement.{statement}

@@ -1,5 +1,4 @@
 -- `head_fits` meets its contract: a head past the slots in use, and one of them.
--- Assumes nothing.
 use borrow.Author.Needs.{needs}
 use Rattle.damage.proofs.SlotLaws.{past-head, used-head}
 use Rattle.damage.proofs.slots.head_fits.Statement.{statement}

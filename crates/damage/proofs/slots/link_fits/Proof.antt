@@ -1,5 +1,4 @@
 -- `link_fits` meets its contract: no link, a link to no earlier slot, a link.
--- Assumes nothing.
 use borrow.Author.Needs.{needs}
 use Rattle.damage.proofs.SlotLaws.{no-link, late-link, early-link}
 use Rattle.damage.proofs.slots.link_fits.Statement.{statement}

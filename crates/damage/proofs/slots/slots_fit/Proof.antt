@@ -1,5 +1,4 @@
 -- `slots_fit` meets its contract: the slots below C and the later ones.
--- Assumes nothing.
 use native.Mathlib.Omega.{arith}
 use borrow.Author.Needs.{needs}
 use Rattle.tables.proofs.ClockLaws.{low-first-slots, low-slots}

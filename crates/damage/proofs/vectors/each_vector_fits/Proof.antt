@@ -1,5 +1,4 @@
 -- `each_vector_fits` meets its contract: a scan; the whole is the rest from here on.
--- Assumes nothing.
 use mathlib.Core.Path.{_≡_, refl}
 use Prim.Native.Nat.{_-_}
 use native.Mathlib.Omega.{arith}

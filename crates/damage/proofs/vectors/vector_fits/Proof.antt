@@ -1,5 +1,4 @@
 -- `vector_fits` meets its contract: the 32 words of the slot, at the row count of its stamp.
--- Assumes nothing.
 use borrow.Author.Needs.{needs}
 use Rattle.damage.proofs.VectorLaws.{one-vector}
 use Rattle.damage.proofs.vectors.vector_fits.Statement.{statement}

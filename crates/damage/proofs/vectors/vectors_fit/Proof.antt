@@ -1,5 +1,4 @@
 -- `vectors_fit` meets its contract: all vectors at once while the row count is the first one, else those below C, and then each.
--- Assumes nothing.
 use native.Mathlib.Omega.{arith}
 use borrow.Author.Needs.{needs}
 use Rattle.tables.proofs.ClockLaws.{low-first-slots, low-slots}

@@ -1,5 +1,4 @@
 -- `watch::fresh` meets its contract.
--- Assumes nothing.
 use mathlib.Core.Path.{refl}
 use Rattle.ends.specs.Watch.{fresh}
 use Rattle.ends.proofs.watch.fresh.Statement.{statement}

@@ -1,5 +1,4 @@
 -- `watch::watched` meets its contract.
--- Assumes nothing.
 use borrow.Author.Needs.{needs}
 use Rattle.ends.proofs.WatchLaws.{watched-past, watched-here, watched-beyond}
 use Rattle.ends.proofs.watch.watched.Statement.{statement}

@@ -1,5 +1,4 @@
 -- `history::version` meets its contract: it ends at `versionSlot`, and the slot number falls at each link.
--- Assumes nothing.
 use borrow.Author.Needs.{needs}
 use Rattle.history.proofs.VersionLaws.{version-here, version-first, version-stuck, version-past}
 use Prim.Native.Nat.{ℕ, _<_}

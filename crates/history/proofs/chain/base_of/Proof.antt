@@ -1,5 +1,4 @@
 -- `history::base_of` meets its contract.
--- Assumes nothing.
 use Rattle.history.proofs.VersionLaws.{stamp-low, base-is}
 use borrow.Author.Needs.{needs}
 use Rattle.history.proofs.chain.base_of.Statement.{statement}

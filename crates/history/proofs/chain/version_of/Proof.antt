@@ -1,5 +1,4 @@
 -- `history::version_of` meets its contract.
--- Assumes nothing.
 use Rattle.history.proofs.VersionLaws.{seen-is, seen-low}
 use borrow.Author.Needs.{needs}
 use Rattle.history.proofs.chain.version_of.Statement.{statement}

@@ -1,5 +1,4 @@
 -- `history::block_names` meets its contract. The invariant: what the changes so far name.
--- Assumes nothing.
 use mathlib.Core.Path.{_≡_}
 use Prim.Native.Nat.{_+_, _-_, _≤_}
 use native.Mathlib.Omega.{arith}

@@ -1,5 +1,4 @@
 -- `history::blocks_before` meets its contract. The invariant: what names the row last up to `to` does so up to e.
--- Assumes nothing.
 use mathlib.Core.Path.{_≡_, refl}
 use Prim.Native.Nat.{_≤_}
 use native.Mathlib.Omega.{arith}

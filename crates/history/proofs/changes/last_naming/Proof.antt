@@ -1,5 +1,4 @@
 -- `history::last_naming` meets its contract.
--- Assumes nothing.
 use Rattle.history.proofs.LastLaws.{place-fits, last-none, last-some}
 use borrow.Author.Needs.{needs}
 use Rattle.history.proofs.changes.last_naming.Statement.{statement}

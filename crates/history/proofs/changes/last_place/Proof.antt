@@ -1,5 +1,4 @@
 -- `history::last_place` meets its contract. The invariant: what names the row last up to `to` does so up to e.
--- Assumes nothing.
 use mathlib.Core.Path.{_≡_}
 use Prim.Native.Nat.{_≤_}
 use native.Mathlib.Omega.{arith}

@@ -1,5 +1,4 @@
 -- `history::named` meets its contract. The invariant: no change so far names the row.
--- Assumes nothing.
 use mathlib.Core.Path.{_≡_}
 use mathlib.Core.Bool.{false}
 use Prim.Native.Nat.{_-_, _≤_}

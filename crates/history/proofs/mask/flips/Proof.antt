@@ -1,5 +1,4 @@
 -- `history::flips` meets its contract. The invariant: the mask is what the changes so far flip.
--- Assumes nothing.
 use mathlib.Core.Path.{_≡_}
 use Prim.Native.Nat.{_-_, _≤_}
 use native.Mathlib.Omega.{arith}

@@ -1,5 +1,4 @@
 -- `history::mark` meets its contract.
--- Assumes nothing.
 use Rattle.history.proofs.LastLaws.{mark-is}
 use borrow.Author.Needs.{needs}
 use Rattle.history.proofs.mask.mark.Statement.{statement}

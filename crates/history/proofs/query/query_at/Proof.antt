@@ -1,5 +1,4 @@
 -- `history::query_at` meets its contract.
--- Assumes nothing.
 use Rattle.history.proofs.QueryLaws.{flips-rows, count-low, own-found, own-scratch, turned-found, turned-scratch}
 use borrow.Author.Needs.{needs}
 use Rattle.history.proofs.query.query_at.Statement.{statement}

@@ -1,5 +1,4 @@
 -- `history::flipped_since` meets its contract.
--- Assumes nothing.
 use borrow.Author.Needs.{needs}
 use Rattle.history.proofs.ReadLaws.{since-is}
 use Rattle.history.proofs.read.flipped_since.Statement.{statement}

@@ -1,5 +1,4 @@
 -- `history::read_after` meets its contract. The invariant: no value so far has the row.
--- Assumes nothing.
 use mathlib.Core.Path.{_≡_}
 use mathlib.Core.Option.{none}
 use Prim.Native.Nat.{_-_, _≤_}

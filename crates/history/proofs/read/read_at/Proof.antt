@@ -1,5 +1,4 @@
 -- `history::read_at` meets its contract.
--- Assumes nothing.
 use Rattle.history.proofs.ReadLaws.{read-is}
 use borrow.Author.Needs.{needs}
 use Rattle.history.proofs.read.read_at.Statement.{statement}

@@ -1,5 +1,4 @@
 -- `history::row_has` meets its contract.
--- Assumes nothing.
 use Rattle.history.proofs.ReadLaws.{has-is}
 use borrow.Author.Needs.{needs}
 use Rattle.history.proofs.read.row_has.Statement.{statement}

@@ -1,5 +1,4 @@
 -- `history::slot_has` meets its contract.
--- Assumes nothing.
 use Rattle.history.proofs.QueryLaws.{slot-bit}
 use borrow.Author.Needs.{needs}
 use Rattle.history.proofs.vector.slot_has.Statement.{statement}

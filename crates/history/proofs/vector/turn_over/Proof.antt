@@ -1,5 +1,4 @@
 -- `history::turn_over` meets its contract.
--- Assumes nothing.
 use mathlib.Core.Path.{sym, _∙_}
 use lib.Seq.{length-take-le}
 use Rattle.history.proofs.QueryLaws.{turn-length, turned}

@@ -1,5 +1,4 @@
 -- `cores::delete_at` meets its contract: by `delete-wide`, the call of the narrowed row is the call of the row.
--- Assumes nothing.
 use mathlib.Core.Path.{_∙_}
 use Rattle.outcomes.proofs.NarrowLaws.{delete-wide}
 use borrow.Author.Needs.{needs}

@@ -1,5 +1,4 @@
 -- `abort` meets its contract: it is an instance of the walk of the outer calls, at `abort_at`.
--- Assumes nothing.
 use Rattle.index.proofs.Calls.{seat, watched, the-answer, the-freed, on-tables, tabs, past, aborts, freeing, and-values}
 use Rattle.index.proofs.Calls.{freed-up, Seats, Frees, Comes-to, Serving, settles, outer, seat-name, seat-routine, seat-met}
 use Rattle.index.proofs.Calls.{free-name, free-routine, free-met}

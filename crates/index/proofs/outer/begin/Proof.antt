@@ -1,5 +1,4 @@
 -- `begin` meets its contract: it is an instance of the walk of the outer calls, at `begin_at`.
--- Assumes nothing.
 use Rattle.index.proofs.Calls.{seat, watched, the-answer, the-begun, on-tables, tabs, past, begins, opening, and-values}
 use Rattle.index.proofs.Calls.{opened, Seats, Opens, Comes-to, Serving, settles, outer, seat-name, seat-routine, seat-met}
 use Rattle.index.proofs.Calls.{open-name, open-routine, open-met}

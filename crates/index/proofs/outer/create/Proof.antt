@@ -1,5 +1,4 @@
 -- `create` meets its contract: it is an instance of the walk of the outer calls, at `create_at`.
--- Assumes nothing.
 use Rattle.index.proofs.Calls.{number, w64, unseen, the-answer, the-freed, on-tables, tabs, past, creates, and-values, freed-up}
 use Rattle.index.proofs.Calls.{Counts, Frees-all, Creating, Comes-to, settles, outer}
 use Rattle.lent.proofs.places.Symbol.{name as places-name, routine as places-routine}

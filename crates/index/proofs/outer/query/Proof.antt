@@ -1,5 +1,4 @@
 -- `query` meets its contract: it is an instance of the walk of the outer calls, at `query_at`.
--- Assumes nothing.
 use Rattle.index.proofs.Calls.{seat, watched, the-answer, on-tables, past, asks, untouched, Seats, Comes-to, Serving, tail}
 use Rattle.index.proofs.Calls.{seat-name, seat-routine, seat-met}
 use Rattle.index.proofs.cores.query_at.Symbol as core-def

@@ -1,5 +1,4 @@
 -- `exports::kv_create` meets its contract: it is an instance of the walk of the exports, at the index's `create`.
--- Assumes nothing.
 use Rattle.kerenvuf.proofs.Exported.{watched, the-answer, the-numbers, on-tables, tabs, past, creates, Comes-to, Numbered, numbering}
 use Rattle.kerenvuf.proofs.Exported.{Seen-of, encodes, then}
 use Rattle.index.proofs.create.Symbol as call-def

@@ -1,5 +1,4 @@
 -- `exports::kv_read` meets its contract: it is an instance of the walk of the exports, at the index's `read`.
--- Assumes nothing.
 use Rattle.kerenvuf.proofs.Exported.{watched, the-answer, the-numbers, on-tables, tabs, past, reads, Comes-to, Numbered, numbering}
 use Rattle.kerenvuf.proofs.Exported.{Seen-of, encodes, then}
 use Rattle.index.proofs.read.Symbol as call-def

@@ -1,5 +1,4 @@
 -- `in_numbers::numbers` meets its contract.
--- Assumes nothing.
 use Rattle.kerenvuf.proofs.AnswerLaws.{says-no, says-as, says-listed}
 use borrow.Author.Needs.{needs}
 use Rattle.kerenvuf.proofs.in_numbers.numbers.Statement.{statement}

@@ -1,5 +1,4 @@
 -- `in_numbers::place_number` meets its contract.
--- Assumes nothing.
 use Rattle.kerenvuf.proofs.AnswerLaws.{place-past, place-slot}
 use borrow.Author.Needs.{needs}
 use Rattle.kerenvuf.proofs.in_numbers.place_number.Statement.{statement}

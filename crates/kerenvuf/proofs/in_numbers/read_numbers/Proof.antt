@@ -1,5 +1,4 @@
 -- `in_numbers::read_numbers` meets its contract.
--- Assumes nothing.
 use Rattle.kerenvuf.proofs.AnswerLaws.{read-as}
 use borrow.Author.Needs.{needs}
 use Rattle.kerenvuf.proofs.in_numbers.read_numbers.Statement.{statement}

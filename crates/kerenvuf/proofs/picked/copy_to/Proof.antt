@@ -1,5 +1,4 @@
 -- `picked::copy_to` meets its contract.
--- Assumes nothing.
 use lib.Seq.{length-take-le}
 use Rattle.kerenvuf.proofs.PickedLaws.{no-part, no-room, same-room, copied-over}
 use borrow.Author.Needs.{needs}

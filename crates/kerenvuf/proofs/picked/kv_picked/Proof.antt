@@ -1,5 +1,4 @@
 -- `picked::kv_picked` meets its contract.
--- Assumes nothing.
 use Rattle.kerenvuf.proofs.PickedLaws.{picked-to}
 use borrow.Author.Needs.{needs}
 use Rattle.kerenvuf.proofs.picked.kv_picked.Statement.{statement}

@@ -1,5 +1,4 @@
 -- `picked::place_named` meets its contract.
--- Assumes nothing.
 use Rattle.kerenvuf.proofs.PickedLaws.{named-scratch, named-slot}
 use borrow.Author.Needs.{needs}
 use Rattle.kerenvuf.proofs.picked.place_named.Statement.{statement}

@@ -1,6 +1,6 @@
 -- `lent::advance` meets its contract: a walk of its MIR. The borrow is opened, the record is read whole and passed to `advanced`, the
 -- record that comes back is stored, and the borrow is closed at it.
--- All that the proof knows of what it calls is that it meets its contract. Assumes nothing.
+-- All that the proof knows of what it calls is that it meets its contract.
 use Rattle.lent.proofs.Kit.{_≡_, refl, ℕ, _<_, List, [], _∷_, fullShare, named, Val, vunit, vptr, emp, ftrue, flft, Calls, Atoms}
 use Rattle.lent.proofs.Kit.{factI, givenOf, tables}
 use Rattle.lent.proofs.Kit.{tablesOf, Given, ‵, _⊛_, _$_, _∵_, !, qed, move, keep, drop, split, join, fsplit, fsplit3, fjoin}

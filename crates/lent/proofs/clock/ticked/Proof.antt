@@ -1,6 +1,6 @@
 -- `lent::ticked` meets its contract: a walk of its MIR. The record is put into a local, which is lent to `advance` for a lifetime that is
 -- made for the call, comes back at the record that `advance` says, and is returned.
--- All that the proof knows of what it calls is that it meets its contract. Assumes nothing.
+-- All that the proof knows of what it calls is that it meets its contract.
 use Rattle.lent.proofs.Kit.{_≡_, refl, ℕ, _<_, List, [], _∷_, fullShare, named, Val, vptr, emp, GName, ftrue, fat, flent, fres}
 use Rattle.lent.proofs.Kit.{Calls, Atoms, factI, givenOf, tables, tablesOf}
 use Rattle.lent.proofs.Kit.{Given, ‵, some, later, _⊛_, _$_, _∵_, !, qed, move, keep, use2, use3, split, join, pick, rewrite, fsplit}

@@ -1,6 +1,5 @@
 -- `lent::seat_of` meets its contract: the clock is read, every place is judged, the places are counted, and the one session is copied: four
 -- calls, to each of which the slices are passed on as they were passed.
--- Assumes nothing.
 use Rattle.lent.proofs.Kit.{_≡_, refl, ℕ, false, List, [], _∷_, length, w32, w64, tyInt, tyBool, vbool, vint, givenOf, Given, _$_}
 use Rattle.lent.proofs.Kit.{ !, move, drop, fsplit, fjoin, Is, agg, look, init, stop, from, load, and-then, no-more, assigns}
 use Rattle.lent.proofs.Kit.{tablesOf, number, flag, clock, session, seat, arrives, Tree, bare, leaf, both, Param, seen, given}

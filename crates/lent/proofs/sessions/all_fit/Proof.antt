@@ -1,6 +1,5 @@
 -- `lent::all_fit` meets its contract: a loop over the places, each turn of which looks into the slice, copies the session there and judges
 -- it. The invariant is that the answer so far is that of the places passed.
--- Assumes nothing.
 use Rattle.lent.proofs.Kit.{_≡_, refl, sym, _∙_, ap, ℕ, _<_, _+_, _^_, arith, Bool, false, _&&_, List, [], _∷_, leb, lit<, length}
 use Rattle.lent.proofs.Kit.{fullShare, w32, w64, tyInt, tyBool, place, copy, seq, call, Val, vbool, vint, SProp, Body, fat, flft}
 use Rattle.lent.proofs.Kit.{Env, Tables, givenOf, tables, tablesOf, Given, Item, atRet, ‵, _$_, !, move, rewrite, fsplit, fjoin}

@@ -1,5 +1,4 @@
 -- `sessions::fits_too` meets its contract.
--- Assumes nothing.
 use mathlib.Core.Path.{_≡_, ap}
 use mathlib.Core.Bool.{Bool, _&&_}
 use borrow.Author.Needs.{needs}

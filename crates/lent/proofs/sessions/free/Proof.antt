@@ -1,5 +1,4 @@
 -- `lent::free` meets its contract: `free_session` makes the session, and `put` puts it there.
--- Assumes nothing.
 use Rattle.lent.proofs.Kit.{_≡_, _∙_, ap, false, List, [], _∷_, w64, number, flag, nil, session, Param, kept, lent, given, Says}
 use Rattle.lent.proofs.Kit.{view, asked, others, Gives-made, made}
 use Rattle.tables.specs.Sessions.{freed}

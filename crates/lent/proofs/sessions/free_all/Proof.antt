@@ -1,6 +1,5 @@
 -- `lent::free_all` meets its contract: a loop over the places, each turn of which lends the slice to `free`. The invariant is that what the
 -- places left make of the slice is what all of them make of the slice passed.
--- Assumes nothing.
 use Rattle.lent.proofs.Kit.{_≡_, refl, sym, _∙_, ap, subst, ℕ, _<_, _+_, _^_, arith, Bool, false, List, [], _∷_, lit<, length}
 use Rattle.lent.proofs.Kit.{fullShare, named, erased, mut, w64, tyInt, tyBool, tyUnit, tyRef, place, copy, seq, call, Val, SProp}
 use Rattle.lent.proofs.Kit.{Body, fat, flft, Env, Tables, givenOf, tables, tablesOf, Given, Item, atRet, ‵, _$_, !, move, drop}

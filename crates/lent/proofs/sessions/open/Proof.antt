@@ -1,5 +1,4 @@
 -- `lent::open` meets its contract: `opened_session` makes the session, and `put` puts it there.
--- Assumes nothing.
 use Rattle.lent.proofs.Kit.{_≡_, _∙_, ap, true, false, List, [], _∷_, w64, number, flag, nil, session, stamp, row, Param, kept, lent}
 use Rattle.lent.proofs.Kit.{given, Says, view, asked, others, Gives-made, made}
 use Rattle.tables.specs.Sessions.{begun}

@@ -1,6 +1,5 @@
 -- `lent::place` meets its contract: the answer is a free session, and where the place is one of the slice's, the borrow is looked into, the
 -- element is copied, and the borrow is shut.
--- Assumes nothing.
 use Rattle.lent.proofs.Kit.{_≡_, refl, sym, ℕ, _<_, _*_, _^_, arith, false, _&&_, List, [], _∷_, ltb, ltb→lt, length, fullShare, w64}
 use Rattle.lent.proofs.Kit.{tyInt, tyBool, tyPtr, Val, vbool, vint, vptr, SProp, fat, Env, Calls, Loops, givenOf, tables, tablesOf}
 use Rattle.lent.proofs.Kit.{Given, atRet, ‵, _$_, !, move, rewrite, fsplit, fjoin, whole, sub, look-in, look, look-raw, store, init}

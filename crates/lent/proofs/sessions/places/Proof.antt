@@ -1,5 +1,4 @@
 -- `lent::places` meets its contract: the count is read from the slice reference.
--- Assumes nothing.
 use Rattle.lent.proofs.Kit.{_≡_, refl, List, [], _∷_, length, w64, tyInt, givenOf, _$_, !, whole, sub, look-in, init, stop, fld}
 use Rattle.lent.proofs.Kit.{from, load, of-opd, assigns, number, session, bare, Param, seen, longs-same, cells, holds, Says, runs-as}
 use Rattle.lent.proofs.Kit.{opened, closed}

@@ -1,6 +1,5 @@
 -- `lent::put` meets its contract: `place_meant` says at which place. Where that is one of the slice's, the borrow is opened, the element is
 -- stored to, and the borrow is shut; else nothing is done.
--- Assumes nothing.
 use Rattle.lent.proofs.Kit.{_≡_, refl, sym, _∙_, ℕ, _<_, _*_, _^_, arith, Bool, true, false, cond, _&&_, List, [], _∷_, ltb, ltb→lt}
 use Rattle.lent.proofs.Kit.{length, set, length-set, fullShare, w64, tyInt, tyBool, tyPtr, named, Val, vbool, vint, vptr, SProp, fat}
 use Rattle.lent.proofs.Kit.{Env, Calls, Loops, givenOf, tables, tablesOf, Given, atRet, ‵, _$_, !, move, drop, rewrite, fsplit}

@@ -1,5 +1,4 @@
 -- `one_line::line` meets its contract.
--- Assumes nothing.
 use borrow.Author.Needs.{needs}
 use Rattle.lines.proofs.LineLaws.{nothing-column, nothing-out, line-read}
 use Rattle.lines.proofs.one_line.line.Statement.{statement}

@@ -1,5 +1,4 @@
 -- `one_line::line_in` meets its contract.
--- Assumes nothing.
 use native.Mathlib.Omega.{arith}
 use borrow.Author.Needs.{needs}
 use Rattle.lines.proofs.LineLaws.{line-done}

@@ -1,5 +1,4 @@
 -- `one_line::wish_of` meets its contract.
--- Assumes nothing.
 use borrow.Author.Needs.{needs}
 use Rattle.lines.proofs.LineLaws.{long-line}
 use Rattle.lines.proofs.one_line.wish_of.Statement.{statement}

@@ -1,5 +1,4 @@
 -- `printing::put_answer` meets its contract.
--- Assumes nothing.
 use borrow.Author.Needs.{needs}
 use Rattle.lines.proofs.AnswerLaws.{queried-few, queried-fits, put-refused, put-count, put-at, put-read, put-listed}
 use Rattle.lines.proofs.printing.put_answer.Statement.{statement}

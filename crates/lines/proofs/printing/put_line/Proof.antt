@@ -1,5 +1,4 @@
 -- `printing::put_line` meets its contract.
--- Assumes nothing.
 use borrow.Author.Needs.{needs}
 use Rattle.lines.proofs.AnswerLaws.{put-answered}
 use Rattle.lines.proofs.printing.put_line.Statement.{statement}

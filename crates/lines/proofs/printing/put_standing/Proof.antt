@@ -1,5 +1,4 @@
 -- `printing::put_standing` meets its contract.
--- Assumes nothing.
 use borrow.Author.Needs.{needs}
 use Rattle.lines.proofs.AnswerLaws.{put-holds, put-none}
 use Rattle.lines.proofs.printing.put_standing.Statement.{statement}

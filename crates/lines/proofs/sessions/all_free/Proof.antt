@@ -1,5 +1,4 @@
 -- `sessions::all_free` meets its contract.
--- Assumes nothing.
 use borrow.Author.Needs.{needs}
 use Rattle.lines.proofs.TurnLaws.{free-each}
 use Rattle.lines.proofs.sessions.all_free.Statement.{statement}

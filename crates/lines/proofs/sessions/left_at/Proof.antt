@@ -1,5 +1,4 @@
 -- `sessions::left_at` meets its contract.
--- Assumes nothing.
 use borrow.Author.Needs.{needs}
 use Rattle.lines.proofs.TurnLaws.{left-near, left-far}
 use Rattle.lines.proofs.sessions.left_at.Statement.{statement}

@@ -1,5 +1,4 @@
 -- `turns::created` meets its contract.
--- Assumes nothing.
 use mathlib.Core.Path.{refl, _∙_}
 use borrow.Author.Needs.{needs}
 use Rattle.lines.proofs.turns.created.Statement.{statement}

@@ -1,5 +1,4 @@
 -- `turns::turn` meets its contract.
--- Assumes nothing.
 use borrow.Author.Needs.{needs}
 use Rattle.door.proofs.Doors.{sixteen}
 use Rattle.lines.proofs.TurnLaws.{part-length, create-turns, none-turns}

@@ -1,5 +1,4 @@
 -- `begin::abort_in` meets its contract.
--- Assumes nothing.
 use Rattle.listing.proofs.BeginLaws.{abort-refused, abort-frees}
 use borrow.Author.Needs.{needs}
 use Rattle.listing.proofs.begin.abort_in.Statement.{statement}

@@ -1,5 +1,4 @@
 -- `begin::begin_in` meets its contract.
--- Assumes nothing.
 use Rattle.listing.proofs.BeginLaws.{begin-refused, begin-clock, begin-again, begin-new}
 use borrow.Author.Needs.{needs}
 use Rattle.listing.proofs.begin.begin_in.Statement.{statement}

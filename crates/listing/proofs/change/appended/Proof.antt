@@ -1,5 +1,4 @@
 -- `change::appended` meets its contract: the list is full, or has an entry more.
--- Assumes nothing.
 use borrow.Author.Needs.{needs}
 use Rattle.listing.proofs.ChangeLaws.{append-full, append-more}
 use Rattle.listing.proofs.change.appended.Statement.{statement}

@@ -1,5 +1,4 @@
 -- `change::delete_in` meets its contract: refused by the shared tests, or the rest of the call decides.
--- Assumes nothing.
 use borrow.Author.Needs.{needs}
 use Rattle.listing.proofs.ChangeCores.{delete-refused, delete-on}
 use Rattle.outcomes.proofs.OpenLaws.{opened-usable}

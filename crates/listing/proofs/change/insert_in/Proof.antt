@@ -1,5 +1,4 @@
 -- `change::insert_in` meets its contract: refused by the shared tests, or the rest of the call decides.
--- Assumes nothing.
 use borrow.Author.Needs.{needs}
 use Rattle.listing.proofs.ChangeCores.{value-byte, insert-refused, insert-on}
 use Rattle.listing.proofs.change.insert_in.Statement.{statement}

@@ -1,5 +1,4 @@
 -- `change::listed` meets its contract: the row stands in the list, or an entry is appended.
--- Assumes nothing.
 use borrow.Author.Needs.{needs}
 use Rattle.listing.proofs.ChangeLaws.{target-there, target-new}
 use Rattle.listing.proofs.change.listed.Statement.{statement}

@@ -1,5 +1,4 @@
 -- `change::standing` meets its contract: the row is listed, or its read decides.
--- Assumes nothing.
 use borrow.Author.Needs.{needs}
 use Rattle.listing.proofs.ChangeLaws.{stands-listed, stands-ready, stands-read}
 use Rattle.listing.proofs.change.standing.Statement.{statement}

@@ -1,5 +1,4 @@
 -- `change::update_in` meets its contract: refused by the shared tests, or the rest of the call decides.
--- Assumes nothing.
 use borrow.Author.Needs.{needs}
 use Rattle.listing.proofs.ChangeCores.{value-byte, valued-usable, update-refused, update-on}
 use Rattle.listing.proofs.change.update_in.Statement.{statement}

@@ -1,5 +1,4 @@
 -- `answers::made_free` meets its contract.
--- Assumes nothing.
 use mathlib.Core.Path.{refl}
 use Rattle.outcomes.specs.Seats.{frees}
 use Rattle.outcomes.proofs.answers.made_free.Statement.{statement}

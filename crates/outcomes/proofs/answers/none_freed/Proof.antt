@@ -1,5 +1,4 @@
 -- `answers::none_freed` meets its contract.
--- Assumes nothing.
 use mathlib.Core.Path.{refl}
 use Rattle.outcomes.specs.Seats.{freesNone}
 use Rattle.outcomes.proofs.answers.none_freed.Statement.{statement}

@@ -1,5 +1,4 @@
 -- `answers::none_opened` meets its contract.
--- Assumes nothing.
 use mathlib.Core.Path.{refl}
 use Rattle.outcomes.specs.Seats.{opensNone}
 use Rattle.outcomes.proofs.answers.none_opened.Statement.{statement}

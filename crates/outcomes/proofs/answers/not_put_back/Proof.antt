@@ -1,5 +1,4 @@
 -- `answers::not_put_back` meets its contract.
--- Assumes nothing.
 use borrow.Author.Needs.{needs}
 use Rattle.outcomes.specs.Seats.{relistsNone}
 use Rattle.outcomes.proofs.answers.not_put_back.Statement.{statement}

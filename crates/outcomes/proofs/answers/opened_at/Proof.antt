@@ -1,5 +1,4 @@
 -- `answers::opened_at` meets its contract.
--- Assumes nothing.
 use mathlib.Core.Path.{refl}
 use Rattle.outcomes.specs.Seats.{opens}
 use Rattle.outcomes.proofs.answers.opened_at.Statement.{statement}

@@ -1,5 +1,4 @@
 -- `answers::put_back` meets its contract.
--- Assumes nothing.
 use mathlib.Core.Path.{refl}
 use Rattle.outcomes.specs.Seats.{relists}
 use Rattle.outcomes.proofs.answers.put_back.Statement.{statement}

@@ -1,5 +1,4 @@
 -- `enter::in_reach` meets its contract.
--- Assumes nothing.
 use Rattle.outcomes.specs.Enter.{inReach}
 use mathlib.Core.Path.{refl}
 use Rattle.outcomes.proofs.enter.in_reach.Statement.{statement}

@@ -1,5 +1,4 @@
 -- `enter::opened` meets its contract.
--- Assumes nothing.
 use Rattle.outcomes.proofs.EnterLaws.{opened-stays, not-open, placed-clock, out-of-reach, opened-passes}
 use borrow.Author.Needs.{needs}
 use Rattle.outcomes.proofs.enter.opened.Statement.{statement}

@@ -1,5 +1,4 @@
 -- `enter::placed` meets its contract.
--- Assumes nothing.
 use Rattle.outcomes.proofs.EnterLaws.{no-room, found-room, sessions-unfit, numbers-unfit, first-decides, past-table, in-table}
 use borrow.Author.Needs.{needs}
 use Rattle.outcomes.proofs.enter.placed.Statement.{statement}

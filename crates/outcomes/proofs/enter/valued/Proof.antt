@@ -1,5 +1,4 @@
 -- `enter::valued` meets its contract.
--- Assumes nothing.
 use Rattle.outcomes.proofs.EnterLaws.{valued-stays, opened-clock, no-value, valued-passes}
 use borrow.Author.Needs.{needs}
 use Rattle.outcomes.proofs.enter.valued.Statement.{statement}

@@ -1,5 +1,4 @@
 -- `lists::inserts` meets its contract: the count is that of the first i entries.
--- Assumes nothing.
 use mathlib.Core.Path.{_≡_}
 use mathlib.Core.Logic.{⊎-elim}
 use Prim.Native.Nat.{_-_, _≤_}

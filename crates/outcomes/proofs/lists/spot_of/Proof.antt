@@ -1,5 +1,4 @@
 -- `lists::spot_of` meets its contract: no entry so far has the row.
--- Assumes nothing.
 use mathlib.Core.Path.{_≡_}
 use mathlib.Core.Option.{none}
 use Prim.Native.Nat.{_-_, _≤_}

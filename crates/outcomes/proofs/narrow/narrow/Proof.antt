@@ -1,5 +1,4 @@
 -- `narrow::narrow` meets its contract.
--- Assumes nothing.
 use Rattle.outcomes.proofs.NarrowLaws.{narrow-past, narrow-here}
 use borrow.Author.Needs.{needs}
 use Rattle.outcomes.proofs.narrow.narrow.Statement.{statement}

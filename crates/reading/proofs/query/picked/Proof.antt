@@ -1,5 +1,4 @@
 -- `query::picked` meets its contract.
--- Assumes nothing.
 use lib.Seq.{length-take-le}
 use native.Mathlib.Omega.{arith}
 use mathlib.Core.Path.{sym}

@@ -1,5 +1,4 @@
 -- `query::query_in` meets its contract.
--- Assumes nothing.
 use Rattle.reading.proofs.QueryLaws.{query-refused, query-ready, query-short, query-own, query-copied}
 use borrow.Author.Needs.{needs}
 use Rattle.reading.proofs.query.query_in.Statement.{statement}

@@ -1,5 +1,4 @@
 -- `query::read_in` meets its contract.
--- Assumes nothing.
 use Rattle.reading.proofs.ReadLaws.{read-refused, read-clock, read-readies, read-no-row, read-reads}
 use borrow.Author.Needs.{needs}
 use Rattle.reading.proofs.query.read_in.Statement.{statement}

@@ -1,5 +1,4 @@
 -- `chunk::answer` meets its contract: at the loop's head, the lines answered so far are the first of those that were left.
--- Assumes nothing.
 use mathlib.Core.Path.{_≡_, refl, ap, _∙_}
 use mathlib.Core.Bool.{true, false}
 use mathlib.Core.List.{List}

@@ -1,5 +1,4 @@
 -- `chunk::answered` meets its contract.
--- Assumes nothing.
 use mathlib.Core.Path.{sym}
 use lib.Seq.{length-take-le}
 use Rattle.steps.proofs.ReplyLaws.{replied-none, replied-line}

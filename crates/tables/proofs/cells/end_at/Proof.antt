@@ -1,5 +1,4 @@
 -- `end_at` meets its contract: the end of the record before stamp s + 1.
--- Assumes nothing.
 use Rattle.tables.proofs.Access.{end-later}
 use borrow.Author.Needs.{needs}
 use Rattle.tables.proofs.cells.end_at.Statement.{statement}

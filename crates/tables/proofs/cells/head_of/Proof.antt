@@ -1,5 +1,4 @@
 -- `head_of` meets its contract: the cell of the value.
--- Assumes nothing.
 use Rattle.tables.proofs.Access.{cell-at}
 use borrow.Author.Needs.{needs}
 use Rattle.tables.proofs.cells.head_of.Statement.{statement}

@@ -1,5 +1,4 @@
 -- `put_change` meets its contract: two stores.
--- Assumes nothing.
 use mathlib.Core.Path.{refl}
 use native.Mathlib.Omega.{arith}
 use lib.ListN.{length-set}

@@ -1,5 +1,4 @@
 -- `put_head` meets its contract: one store.
--- Assumes nothing.
 use Rattle.tables.specs.Stores.{putHead}
 use Rattle.tables.proofs.Access.{set-at-same}
 use borrow.Author.Needs.{needs}

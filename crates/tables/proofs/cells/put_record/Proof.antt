@@ -1,5 +1,4 @@
 -- `put_record` meets its contract: four stores.
--- Assumes nothing.
 use Rattle.tables.proofs.Access.{record-at}
 use native.Mathlib.Omega.{arith}
 use lib.ListN.{length-set}

@@ -1,5 +1,4 @@
 -- `put_slot` meets its contract: three stores.
--- Assumes nothing.
 use mathlib.Core.Path.{refl}
 use native.Mathlib.Omega.{arith}
 use lib.ListN.{length-set}

@@ -1,5 +1,4 @@
 -- `rows_at` meets its contract: the row count of the record before stamp s + 1.
--- Assumes nothing.
 use Rattle.tables.proofs.Access.{rows-later}
 use borrow.Author.Needs.{needs}
 use Rattle.tables.proofs.cells.rows_at.Statement.{statement}

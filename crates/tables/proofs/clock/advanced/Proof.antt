@@ -1,5 +1,4 @@
 -- `advanced` meets its contract.
--- Assumes nothing.
 use mathlib.Core.Path.{refl}
 use Rattle.tables.specs.Clock.{later}
 use borrow.Author.Needs.{needs}

@@ -1,5 +1,4 @@
 -- `clock_lent` meets its contract.
--- Assumes nothing.
 use Rattle.tables.proofs.Access.{clock-short, clock-long}
 use borrow.Author.Needs.{needs}
 use Rattle.tables.proofs.clock.clock_lent.Statement.{statement}

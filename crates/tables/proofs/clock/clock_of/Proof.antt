@@ -1,5 +1,4 @@
 -- `clock_of` meets its contract: four cells.
--- Assumes nothing.
 use mathlib.Core.Path.{refl}
 use Rattle.tables.specs.Clock.{clockIn}
 use borrow.Author.Needs.{needs}

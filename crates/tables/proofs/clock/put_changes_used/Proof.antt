@@ -1,5 +1,4 @@
 -- `put_changes_used` meets its contract: one store.
--- Assumes nothing.
 use mathlib.Core.Path.{refl}
 use Rattle.tables.specs.Stores.{putChangesUsed}
 use borrow.Author.Needs.{needs}

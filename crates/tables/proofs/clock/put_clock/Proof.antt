@@ -1,5 +1,4 @@
 -- `put_clock` meets its contract: the six stores.
--- Assumes nothing.
 use mathlib.Core.Path.{refl}
 use Rattle.tables.specs.Stores.{putClock}
 use native.Mathlib.Omega.{arith}

@@ -1,5 +1,4 @@
 -- `put_moment` meets its contract: two stores.
--- Assumes nothing.
 use mathlib.Core.Path.{refl}
 use Rattle.tables.specs.Stores.{putMoment}
 use native.Mathlib.Omega.{arith}

@@ -1,5 +1,4 @@
 -- `put_slots_used` meets its contract: one store.
--- Assumes nothing.
 use mathlib.Core.Path.{refl}
 use Rattle.tables.specs.Stores.{putSlotsUsed}
 use borrow.Author.Needs.{needs}

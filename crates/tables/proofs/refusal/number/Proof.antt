@@ -1,5 +1,4 @@
 -- `number` meets its contract: the variant taken decides.
--- Assumes nothing.
 use mathlib.Core.Path.{_≡_, sym, ap}
 use borrow.Author.Needs.{needs}
 use Rattle.tables.specs.declared.refusal.Refusal.{Refusal}

@@ -1,5 +1,4 @@
 -- `free_session` meets its contract.
--- Assumes nothing.
 use mathlib.Core.Path.{refl}
 use Rattle.tables.specs.Sessions.{freed}
 use Rattle.tables.proofs.session.free_session.Statement.{statement}

@@ -1,5 +1,4 @@
 -- `opened_session` meets its contract.
--- Assumes nothing.
 use mathlib.Core.Path.{refl}
 use Rattle.tables.specs.Sessions.{begun}
 use Rattle.tables.proofs.session.opened_session.Statement.{statement}

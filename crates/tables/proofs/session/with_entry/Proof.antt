@@ -1,5 +1,4 @@
 -- `with_entry` meets its contract: two cells and the count.
--- Assumes nothing.
 use mathlib.Core.Path.{refl}
 use Rattle.tables.specs.Sessions.{withEntry}
 use borrow.Author.Needs.{needs}

@@ -1,5 +1,4 @@
 -- `text::cells::all_short` meets its contract: bytes that take turns from a space on.
--- Assumes nothing.
 use native.Mathlib.Omega.{arith}
 use borrow.Author.Needs.{needs}
 use Rattle.text.proofs.ShortLaws.{unsaid, short-turns}

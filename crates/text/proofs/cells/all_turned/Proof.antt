@@ -1,5 +1,4 @@
 -- `text::cells::all_turned` meets its contract: a fold.
--- Assumes nothing.
 use mathlib.Core.Path.{_≡_}
 use mathlib.Core.Bool.{true}
 use Prim.Native.Nat.{_+_, _-_, _≤_}

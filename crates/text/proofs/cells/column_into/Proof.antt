@@ -1,5 +1,4 @@
 -- `text::cells::column_into` meets its contract: cells of one byte each at once, others one by one.
--- Assumes nothing.
 use borrow.Author.Needs.{needs}
 use Rattle.text.proofs.cells.column_into.Statement.{statement}
 use Rattle.text.proofs.cells.column_into.Tie as tie

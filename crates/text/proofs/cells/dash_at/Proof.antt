@@ -1,4 +1,4 @@
--- `text::cells::dash_at` meets its contract. Assumes nothing.
+-- `text::cells::dash_at` meets its contract.
 use borrow.Author.Needs.{needs}
 use Rattle.text.proofs.CellLaws.{dash-none, dash-other, dash-last, dash-yes, dash-no}
 use Rattle.text.proofs.cells.dash_at.Statement.{statement}

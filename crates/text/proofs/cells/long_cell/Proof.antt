@@ -1,4 +1,4 @@
--- `text::cells::long_cell` meets its contract. Assumes nothing.
+-- `text::cells::long_cell` meets its contract.
 use borrow.Author.Needs.{needs}
 use Rattle.text.proofs.CellLaws.{cell-dash, cell-small}
 use Rattle.text.proofs.cells.long_cell.Statement.{statement}

@@ -1,4 +1,4 @@
--- `text::cells::near_cell` meets its contract. Assumes nothing.
+-- `text::cells::near_cell` meets its contract.
 use Rattle.text.proofs.NumberLaws.{digit-yes}
 use Rattle.text.proofs.CellLaws.{near-none, near-one, near-two}
 use borrow.Author.Needs.{needs}

@@ -1,5 +1,4 @@
 -- `text::cells::short_into` meets its contract: what is stored and counted, and what is still to come, is the whole.
--- Assumes nothing.
 use mathlib.Core.Path.{_≡_}
 use Prim.Native.Nat.{_+_, _-_, _*_, _/_, _≤_}
 use native.Mathlib.Omega.{arith}

@@ -1,5 +1,4 @@
 -- `text::cells::short_known` meets its contract.
--- Assumes nothing.
 use borrow.Author.Needs.{needs}
 use Rattle.text.proofs.ShortLaws.{known-is}
 use Rattle.text.proofs.cells.short_known.Statement.{statement}

@@ -1,5 +1,4 @@
 -- `text::cells::short_value` meets its contract.
--- Assumes nothing.
 use Rattle.text.proofs.ShortLaws.{value-dash, value-digit, value-sub}
 use Rattle.text.proofs.cells.short_value.Statement.{statement}
 use Rattle.text.proofs.cells.short_value.Tie as tie

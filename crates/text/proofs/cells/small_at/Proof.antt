@@ -1,4 +1,4 @@
--- `text::cells::small_at` meets its contract. Assumes nothing.
+-- `text::cells::small_at` meets its contract.
 use borrow.Author.Needs.{needs}
 use Rattle.text.proofs.CellLaws.{small-over, small-is}
 use Rattle.text.proofs.cells.small_at.Statement.{statement}

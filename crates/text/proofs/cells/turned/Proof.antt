@@ -1,5 +1,4 @@
 -- `text::cells::turned` meets its contract.
--- Assumes nothing.
 use borrow.Author.Needs.{needs}
 use Rattle.text.proofs.ShortLaws.{turned-space, turned-cell}
 use Rattle.text.proofs.cells.turned.Statement.{statement}

@@ -1,4 +1,4 @@
--- `text::feed::blocks_from` meets its contract. Assumes nothing.
+-- `text::feed::blocks_from` meets its contract.
 use mathlib.Core.Path.{_≡_, refl}
 use Prim.Native.Nat.{_-_, _≤_}
 use native.Mathlib.Omega.{arith}

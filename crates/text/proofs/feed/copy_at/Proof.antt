@@ -1,4 +1,4 @@
--- `text::feed::copy_at` meets its contract: what is copied, and what is still to come, is the whole. Assumes nothing.
+-- `text::feed::copy_at` meets its contract: what is copied, and what is still to come, is the whole.
 use Prim.Native.Nat.{_-_}
 use borrow.Author.Needs.{needs}
 use lib.ListN.{length}

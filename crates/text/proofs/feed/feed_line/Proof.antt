@@ -1,4 +1,4 @@
--- `text::feed::feed_line` meets its contract. Assumes nothing.
+-- `text::feed::feed_line` meets its contract.
 use native.Mathlib.Omega.{arith}
 use borrow.Author.Needs.{needs}
 use Rattle.text.proofs.FeedLaws.{feed-between, feeds-whole, feeds-part}

@@ -1,4 +1,4 @@
--- `text::feed::gather` meets its contract. Assumes nothing.
+-- `text::feed::gather` meets its contract.
 use mathlib.Core.Path.{sym}
 use native.Mathlib.Omega.{arith}
 use borrow.Author.Needs.{needs}

@@ -1,4 +1,4 @@
--- `text::feed::has_newline` meets its contract. Assumes nothing.
+-- `text::feed::has_newline` meets its contract.
 use mathlib.Core.Path.{_≡_}
 use Prim.Native.Nat.{_-_, _≤_}
 use native.Mathlib.Omega.{arith}

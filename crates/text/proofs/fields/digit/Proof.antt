@@ -1,4 +1,4 @@
--- `text::fields::digit` meets its contract. Assumes nothing.
+-- `text::fields::digit` meets its contract.
 use native.Mathlib.Omega.{arith}
 use borrow.Author.Needs.{needs}
 use Rattle.text.proofs.NumberLaws.{digit-low}

@@ -1,4 +1,4 @@
--- `text::fields::is_digit` meets its contract. Assumes nothing.
+-- `text::fields::is_digit` meets its contract.
 use mathlib.Core.Path.{refl}
 use Rattle.text.specs.Number.{isDigit}
 use Rattle.text.proofs.fields.is_digit.Statement.{statement}

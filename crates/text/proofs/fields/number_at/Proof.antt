@@ -1,4 +1,4 @@
--- `text::fields::number_at` meets its contract. Assumes nothing.
+-- `text::fields::number_at` meets its contract.
 use borrow.Author.Needs.{needs}
 use Rattle.text.proofs.NumberLaws.{none-there, there}
 use Rattle.text.proofs.fields.number_at.Statement.{statement}

@@ -1,4 +1,4 @@
--- `text::fields::number_from` meets its contract: the whole answer is that from each place on, with the digits so far. Assumes nothing.
+-- `text::fields::number_from` meets its contract: the whole answer is that from each place on, with the digits so far.
 use mathlib.Core.Path.{_≡_}
 use Prim.Native.Nat.{_-_, _≤_}
 use native.Mathlib.Omega.{arith}

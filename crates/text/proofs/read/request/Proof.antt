@@ -1,4 +1,4 @@
--- `text::read::request` meets its contract. Assumes nothing.
+-- `text::read::request` meets its contract.
 use mathlib.Core.Path.{sym}
 use borrow.Author.Needs.{needs}
 use lib.Seq.{length-take-le}

@@ -1,4 +1,4 @@
--- `text::requests::column_request` meets its contract. Assumes nothing.
+-- `text::requests::column_request` meets its contract.
 use borrow.Author.Needs.{needs}
 use Rattle.text.proofs.RequestLaws.{column-stuck, column-bad, column-is}
 use Rattle.text.proofs.requests.column_request.Statement.{statement}

@@ -1,4 +1,4 @@
--- `text::requests::one_request` meets its contract. Assumes nothing.
+-- `text::requests::one_request` meets its contract.
 use borrow.Author.Needs.{needs}
 use Rattle.text.proofs.RequestLaws.{number-stuck, number-next, numbers-over, numbers-all}
 use Rattle.text.proofs.requests.one_request.Statement.{statement}

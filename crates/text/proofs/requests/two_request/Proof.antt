@@ -1,4 +1,4 @@
--- `text::requests::two_request` meets its contract. Assumes nothing.
+-- `text::requests::two_request` meets its contract.
 use borrow.Author.Needs.{needs}
 use Rattle.text.proofs.RequestLaws.{next-within, number-stuck, number-next, numbers-over, numbers-all}
 use Rattle.text.proofs.requests.two_request.Statement.{statement}

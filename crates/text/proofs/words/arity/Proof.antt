@@ -1,4 +1,4 @@
--- `text::words::arity` meets its contract. Assumes nothing.
+-- `text::words::arity` meets its contract.
 use borrow.Author.Needs.{needs}
 use Rattle.text.specs.Words.{arityOf}
 use Rattle.text.proofs.words.arity.Statement.{statement}

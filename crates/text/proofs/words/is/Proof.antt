@@ -1,4 +1,4 @@
--- `text::words::is` meets its contract. Assumes nothing.
+-- `text::words::is` meets its contract.
 use borrow.Author.Needs.{needs}
 use Rattle.text.proofs.WordLaws.{same-is}
 use Rattle.text.proofs.words.is.Statement.{statement}

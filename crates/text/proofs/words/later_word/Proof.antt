@@ -1,4 +1,4 @@
--- `text::words::later_word` meets its contract: a field that is a word is not looked at again, and any other is passed on. Assumes nothing.
+-- `text::words::later_word` meets its contract: a field that is a word is not looked at again, and any other is passed on.
 use borrow.Author.Needs.{needs}
 use Rattle.text.specs.Words.{laterWord}
 use Rattle.text.proofs.WordLaws.{here, past}

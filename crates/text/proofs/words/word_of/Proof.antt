@@ -1,4 +1,4 @@
--- `text::words::word_of` meets its contract: a field that is a word is not looked at again, and any other is passed on. Assumes nothing.
+-- `text::words::word_of` meets its contract: a field that is a word is not looked at again, and any other is passed on.
 use borrow.Author.Needs.{needs}
 use Rattle.text.specs.Words.{wordOf}
 use Rattle.text.proofs.WordLaws.{here, past}

@@ -1,5 +1,4 @@
 -- `tidy::link_slot` meets its contract.
--- Assumes nothing.
 use borrow.Author.Needs.{needs}
 use Rattle.tidying.proofs.tidy.link_slot.Statement.{statement}
 use Rattle.tidying.proofs.tidy.link_slot.Tie as tie

@@ -1,5 +1,4 @@
 -- `tidy::planned` meets its contract.
--- Assumes nothing.
 use Rattle.tidying.proofs.TidyLaws.{plan-ticks, plan-is}
 use borrow.Author.Needs.{needs}
 use Rattle.tidying.proofs.tidy.planned.Statement.{statement}

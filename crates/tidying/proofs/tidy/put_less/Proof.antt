@@ -1,5 +1,4 @@
 -- `tidy::put_less` meets its contract.
--- Assumes nothing.
 use Rattle.tidying.proofs.MovedLaws.{put-one}
 use borrow.Author.Needs.{needs}
 use Rattle.tidying.proofs.tidy.put_less.Statement.{statement}

@@ -1,5 +1,4 @@
 -- `tidy::ready` meets its contract.
--- Assumes nothing.
 use Rattle.tidying.proofs.StaleLaws.{datable-now, count-few, none-moved, is-stale, records-full, changes-full, slots-full}
 use Rattle.tidying.proofs.StaleLaws.{all-passed}
 use native.Mathlib.Omega.{arith}

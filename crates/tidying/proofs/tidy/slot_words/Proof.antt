@@ -1,5 +1,4 @@
 -- `tidy::slot_words` meets its contract.
--- Assumes nothing.
 use Rattle.tidying.proofs.SlotLaws.{slot-copied}
 use borrow.Author.Needs.{needs}
 use Rattle.tidying.proofs.tidy.slot_words.Statement.{statement}

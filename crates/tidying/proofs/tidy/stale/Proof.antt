@@ -1,5 +1,4 @@
 -- `tidy::stale` meets its contract.
--- Assumes nothing.
 use Rattle.tidying.proofs.StaleLaws.{stale-head, stale-touched}
 use borrow.Author.Needs.{needs}
 use Rattle.tidying.proofs.tidy.stale.Statement.{statement}

@@ -1,5 +1,4 @@
 -- `tidy::tidy_at` meets its contract.
--- Assumes nothing.
 use Rattle.tidying.proofs.TidyLaws.{moved-rows, tidy-ready, tidy-refuses, tidy-answers}
 use borrow.Author.Needs.{needs}
 use Rattle.tidying.proofs.tidy.tidy_at.Statement.{statement}

@@ -1,5 +1,4 @@
 -- `tidy::tidy_in` meets its contract.
--- Assumes nothing.
 use Rattle.tidying.proofs.TidyLaws.{tidyable, tidy-refused, tidy-served}
 use borrow.Author.Needs.{needs}
 use Rattle.tidying.proofs.tidy.tidy_in.Statement.{statement}

@@ -1,5 +1,4 @@
 -- `tidy::tidy_work` meets its contract.
--- Assumes nothing.
 use Rattle.tidying.proofs.TidyLaws.{version-fillable, moved-puttable, tidy-writes, tidy-done}
 use native.Mathlib.Omega.{arith}
 use borrow.Author.Needs.{needs}

@@ -1,6 +1,5 @@
 -- `tidy::touched` meets its contract. The invariant: what is asked of all the changes is asked of those from p on.
 -- The measure is what is left of them.
--- Assumes nothing.
 use borrow.Author.Needs.{needs}
 use Rattle.tidying.proofs.StaleLaws.{touched-none, touched-row, touched-set, touched-past}
 use Rattle.tidying.specs.Tidy.{touchedIn}

@@ -1,5 +1,4 @@
 -- `tidy::write_counts` meets its contract.
--- Assumes nothing.
 use Rattle.tidying.proofs.TidyLaws.{counts-written}
 use borrow.Author.Needs.{needs}
 use Rattle.tidying.proofs.tidy.write_counts.Statement.{statement}

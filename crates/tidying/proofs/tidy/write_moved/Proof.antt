@@ -1,6 +1,5 @@
 -- `tidy::write_moved` meets its contract. The outer invariant: the rows of the words before i are put. The inner one: whatever was there
 -- at first, those of word i before bit k are, too, and x is what is left of the word. The measures are what is left of both.
--- Assumes nothing.
 use Prim.Native.Nat.{_+_, _-_, _*_, _≤_, _<_}
 use native.Mathlib.Omega.{arith}
 use borrow.Author.Needs.{needs}

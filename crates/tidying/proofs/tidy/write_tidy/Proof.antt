@@ -1,5 +1,4 @@
 -- `tidy::write_tidy` meets its contract.
--- Assumes nothing.
 use Rattle.tidying.proofs.TidyLaws.{stamp-low, clock-tidied, log-tidied, tidy-said}
 use borrow.Author.Needs.{needs}
 use Rattle.tidying.proofs.tidy.write_tidy.Statement.{statement}

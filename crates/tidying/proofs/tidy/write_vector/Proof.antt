@@ -1,5 +1,4 @@
 -- `tidy::write_vector` meets its contract.
--- Assumes nothing.
 use Rattle.tidying.proofs.SlotLaws.{mask-rows, vector-written}
 use borrow.Author.Needs.{needs}
 use Rattle.tidying.proofs.tidy.write_vector.Statement.{statement}

@@ -1,4 +1,4 @@
--- `digits::put_field` meets its contract. Assumes nothing.
+-- `digits::put_field` meets its contract.
 use borrow.Author.Needs.{needs}
 use Rattle.writing.proofs.WroteLaws.{wrote-field}
 use Rattle.writing.proofs.digits.put_field.Statement.{statement}

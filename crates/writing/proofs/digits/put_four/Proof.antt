@@ -1,4 +1,4 @@
--- `digits::put_four` meets its contract. Assumes nothing.
+-- `digits::put_four` meets its contract.
 use borrow.Author.Needs.{needs}
 use Rattle.writing.proofs.WroteLaws.{wrote-four}
 use Rattle.writing.proofs.digits.put_four.Statement.{statement}

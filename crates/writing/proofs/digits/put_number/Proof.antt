@@ -1,4 +1,4 @@
--- `digits::put_number` meets its contract. Assumes nothing.
+-- `digits::put_number` meets its contract.
 use native.Mathlib.Omega.{arith}
 use borrow.Author.Needs.{needs}
 use Rattle.writing.proofs.WroteLaws.{number-large, number-far}

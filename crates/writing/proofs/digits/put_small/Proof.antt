@@ -1,4 +1,4 @@
--- `digits::put_small` meets its contract. Assumes nothing.
+-- `digits::put_small` meets its contract.
 use borrow.Author.Needs.{needs}
 use Rattle.writing.proofs.WroteLaws.{number-1, number-2, number-3, number-4}
 use Rattle.writing.proofs.digits.put_small.Statement.{statement}

@@ -1,4 +1,4 @@
--- `digits::put_two` meets its contract. Assumes nothing.
+-- `digits::put_two` meets its contract.
 use borrow.Author.Needs.{needs}
 use Rattle.writing.proofs.WroteLaws.{wrote-two}
 use Rattle.writing.proofs.digits.put_two.Statement.{statement}

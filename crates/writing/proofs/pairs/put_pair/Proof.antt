@@ -1,5 +1,4 @@
 -- `pairs::put_pair` meets its contract.
--- Assumes nothing.
 use native.Mathlib.Omega.{arith}
 use borrow.Author.Needs.{needs}
 use Rattle.writing.proofs.WroteLaws.{pairs-length, wrote-pair}

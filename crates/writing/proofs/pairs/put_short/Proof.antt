@@ -1,5 +1,4 @@
 -- `pairs::put_short` meets its contract.
--- Assumes nothing.
 use borrow.Author.Needs.{needs}
 use Rattle.writing.proofs.WroteLaws.{wrote-four, number-1, number-2, number-3, number-4}
 use Rattle.writing.proofs.pairs.put_short.Statement.{statement}

@@ -1,4 +1,4 @@
--- `replies::put_absent` meets its contract. Assumes nothing.
+-- `replies::put_absent` meets its contract.
 use borrow.Author.Needs.{needs}
 use Rattle.writing.proofs.WroteLaws.{ok-dash}
 use Rattle.writing.proofs.replies.put_absent.Statement.{statement}

@@ -1,4 +1,4 @@
--- `replies::put_no` meets its contract. Assumes nothing.
+-- `replies::put_no` meets its contract.
 use borrow.Author.Needs.{needs}
 use Rattle.writing.proofs.WroteLaws.{no-one}
 use Rattle.writing.proofs.replies.put_no.Statement.{statement}

@@ -1,4 +1,4 @@
--- `replies::put_ok` meets its contract. Assumes nothing.
+-- `replies::put_ok` meets its contract.
 use borrow.Author.Needs.{needs}
 use Rattle.writing.proofs.WroteLaws.{ok-none}
 use Rattle.writing.proofs.replies.put_ok.Statement.{statement}

@@ -1,4 +1,4 @@
--- `replies::put_ok_three` meets its contract. Assumes nothing.
+-- `replies::put_ok_three` meets its contract.
 use mathlib.Core.Path.{refl}
 use borrow.Author.Needs.{needs}
 use Rattle.writing.proofs.WroteLaws.{ok-more}

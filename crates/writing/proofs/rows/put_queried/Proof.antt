@@ -1,4 +1,4 @@
--- `rows::put_queried` meets its contract. Assumes nothing.
+-- `rows::put_queried` meets its contract.
 use mathlib.Core.Path.{refl}
 use native.Mathlib.Omega.{arith}
 use Rattle.bits.specs.Tab.{tab}

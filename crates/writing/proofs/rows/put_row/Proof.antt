@@ -1,4 +1,4 @@
--- `rows::put_row` meets its contract. Assumes nothing.
+-- `rows::put_row` meets its contract.
 use borrow.Author.Needs.{needs}
 use Rattle.writing.proofs.WroteLaws.{wrote-field}
 use Rattle.writing.proofs.rows.put_row.Statement.{statement}

@@ -1,4 +1,4 @@
--- `rows::put_rows` meets its contract: the rows of the words that were passed are written. Assumes nothing.
+-- `rows::put_rows` meets its contract: the rows of the words that were passed are written.
 use mathlib.Core.Path.{refl}
 use Prim.Native.Nat.{_-_, _≤_}
 use native.Mathlib.Omega.{arith}

@@ -1,4 +1,4 @@
--- `rows::put_word` meets its contract: what is written of the rows, and what is still to come, is the whole. Assumes nothing.
+-- `rows::put_word` meets its contract: what is written of the rows, and what is still to come, is the whole.
 use native.Mathlib.Omega.{arith}
 use borrow.Author.Needs.{needs}
 use lib.ListN.{length}
