@@ -2,7 +2,8 @@
 use mathlib.Core.Path.{_≡_, refl, sym, ap, ap₂, _∙_, subst}
 use mathlib.Core.Bool.{Bool, true, false, not, _&&_, _||_, or-comm, true≢false}
 use Prim.Native.Nat.{ℕ, zero, suc, _+_, _*_, _/_, _%_, _^_, _≤_, _<_}
-use native.Mathlib.Nat.{div-one, div-div-eq-div-mul, pow-succ', mod-lt, one-mul, lt-of-lt-of-le, div-eq-of-lt, zero-div, zero-lt-suc, pow-suc, mul-mod-left, mul-div-cancel, div-lt-iff-lt-mul}
+use native.Mathlib.Nat.{div-one, div-div-eq-div-mul, pow-succ', mod-lt, one-mul, lt-of-lt-of-le, div-eq-of-lt, zero-div, zero-lt-suc}
+use native.Mathlib.Nat.{pow-suc, mul-mod-left, mul-div-cancel, div-lt-iff-lt-mul}
 use native.Mathlib.Omega.{arith}
 use lib.Dec.{lit<, eqb, eqb·zero-suc, eqb·suc-zero, eqb·suc-suc}
 use lib.Arith.{lt-one}
@@ -63,7 +64,8 @@ bit-ext zero a b p q h = lt-one p ∙ sym (lt-one q)
 bit-ext (suc n) a b p q h =
     let P : a < 2 * 2 ^ n = rw pow-succ' at p in
     let Q : b < 2 * 2 ^ n = rw pow-succ' at q in
-    let hi : a / 2 ≡ b / 2 = bit-ext n (a / 2) (b / 2) (omega arith) (omega arith) (λ k l. sym (bit-suc a k) ∙ h (suc k) (omega arith) ∙ bit-suc b k) in
+    let hi : a / 2 ≡ b / 2 = bit-ext n (a / 2) (b / 2) (omega arith) (omega arith) (λ k l. sym (bit-suc a k) ∙ h (suc k) (omega arith)
+    ∙ bit-suc b k) in
     let lo : a % 2 ≡ b % 2 = parity (a % 2) (b % 2) (omega arith) (omega arith) (sym (bit-zero a) ∙ h 0 (omega arith) ∙ bit-zero b) in
     omega arith
 
@@ -73,7 +75,8 @@ low : (n : ℕ) → n % 2 < 2
 low n = mod-lt n (zero-lt-suc 1)
 
 module _ (op : ℕ → ℕ → ℕ) (g : Bool → Bool → Bool)
-    (ff : eqb (op 0 0) 1 ≡ g false false) (ft : eqb (op 0 1) 1 ≡ g false true) (tf : eqb (op 1 0) 1 ≡ g true false) (tt′ : eqb (op 1 1) 1 ≡ g true true) where
+    (ff : eqb (op 0 0) 1 ≡ g false false) (ft : eqb (op 0 1) 1 ≡ g false true) (tf : eqb (op 1 0) 1 ≡ g true false)
+    (tt′ : eqb (op 1 1) 1 ≡ g true true) where
   digits : (x y : ℕ) → x < 2 → y < 2 → eqb (op x y) 1 ≡ g (eqb x 1) (eqb y 1)
   digits zero zero p q = ff
   digits zero (suc zero) p q = ft
@@ -102,7 +105,8 @@ pub bit-pow : (k j : ℕ) → bit (2 ^ k) j ≡ eqb k j
 unfolding bit
 bit-pow zero zero = refl
 bit-pow zero (suc j) = bit-suc 1 j ∙ bit-of-zero j ∙ sym (eqb·zero-suc j)
-bit-pow (suc k) zero = bit-zero (2 ^ suc k) ∙ ap (λ (x : ℕ). eqb (x % 2) 1) (pow-suc 2 k) ∙ ap (λ (x : ℕ). eqb x 1) (mul-mod-left (2 ^ k) 2) ∙ sym (eqb·suc-zero k)
+bit-pow (suc k) zero = bit-zero (2 ^ suc k) ∙ ap (λ (x : ℕ). eqb (x % 2) 1) (pow-suc 2 k) ∙ ap (λ (x : ℕ). eqb x 1) (mul-mod-left (2 ^ k) 2)
+    ∙ sym (eqb·suc-zero k)
 bit-pow (suc k) (suc j) =
     bit-suc (2 ^ suc k) j ∙ ap (λ (x : ℕ). bit (x / 2) j) (pow-suc 2 k) ∙ ap (λ (x : ℕ). bit x j) (mul-div-cancel (2 ^ k) (zero-lt-suc 1))
     ∙ bit-pow k j ∙ sym (eqb·suc-suc k j)
@@ -135,7 +139,8 @@ bit-set n k j = bit-or n (2 ^ k) j ∙ ap (λ (b : Bool). bit n j || b) (bit-pow
 pub bit-clear : (n k j : ℕ) → bit (clearBit n k) j ≡ not (eqb k j) && bit n j
 unfolding clearBit
 bit-clear n k j =
-    bit-xor (bitOr n (2 ^ k)) (2 ^ k) j ∙ ap₂ xorb (bit-or n (2 ^ k) j) (bit-pow k j) ∙ ap (λ (b : Bool). xorb (bit n j || b) (eqb k j)) (bit-pow k j)
+    bit-xor (bitOr n (2 ^ k)) (2 ^ k) j ∙ ap₂ xorb (bit-or n (2 ^ k) j) (bit-pow k j)
+    ∙ ap (λ (b : Bool). xorb (bit n j || b) (eqb k j)) (bit-pow k j)
     ∙ cleared (bit n j) (eqb k j)
 
 pub flip-lt : (c n k : ℕ) → n < 2 ^ c → k < c → flipBit n k < 2 ^ c

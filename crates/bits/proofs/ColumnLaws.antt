@@ -192,7 +192,8 @@ module _ (col : List ℕ) (i : ℕ) (low : i < 32) where
       go (inr a) b = rw (ne-eqb (q / 64) (32 * v + i) (λ e. a (omega arith)), ne-eqb (q / 2048) v a)
 
   pub vector-more : (w₀ w own : List ℕ) (v : ℕ) → Grown (λ q. q / 2048) (inWord col i) w₀ w v → Gathered col i 64 own → v < 32
-      → 1024 ≤ length w₀ → Grown (λ q. q / 2048) (inWord col i) w₀ (set w (32 * v + i) (bitOr (getD w (32 * v + i) 0) (getD own v 0))) (v + 1)
+      → 1024 ≤ length w₀ → Grown (λ q. q / 2048) (inWord col i) w₀ (set w (32 * v + i) (bitOr (getD w (32 * v + i) 0) (getD own v 0)))
+      (v + 1)
   vector-more w₀ w own v p o h room =
       let x = wordOf (holdsAt col v) i in
       grown-more (λ q. q / 2048) (inWord col i) w₀ p

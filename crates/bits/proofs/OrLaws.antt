@@ -16,8 +16,11 @@ or-none : (a b : ℕ) → eqb (bitOr a b) 0 ≡ eqb a 0 && eqb b 0
 or-none a b =
     same-truth (eqb (bitOr a b) 0) (eqb a 0 && eqb b 0)
     (λ e. let z : bitOr a b ≡ 0 = eqb-true (bitOr a b) 0 e in
-    and-eq-true-iff (eqb a 0) (eqb b 0) .1 (eq-eqb a 0 (omega (arith, or-add-and a b, and-le-r a b)), eq-eqb b 0 (omega (arith, or-add-and a b, and-le-l a b))))
-    (λ e. eq-eqb (bitOr a b) 0 (ap₂ bitOr (eqb-true a 0 (and-eq-true-iff (eqb a 0) (eqb b 0) .0 e .0)) (eqb-true b 0 (and-eq-true-iff (eqb a 0) (eqb b 0) .0 e .1))))
+    and-eq-true-iff (eqb a 0) (eqb b 0) .1
+    (eq-eqb a 0 (omega (arith, or-add-and a b, and-le-r a b)), eq-eqb b 0 (omega (arith, or-add-and a b, and-le-l a b))))
+    (λ e. eq-eqb (bitOr a b) 0
+    (ap₂ bitOr (eqb-true a 0 (and-eq-true-iff (eqb a 0) (eqb b 0) .0 e .0))
+    (eqb-true b 0 (and-eq-true-iff (eqb a 0) (eqb b 0) .0 e .1))))
 
 module _ (g : ℕ → ℕ) where
   pub or-zero : 0 ≡ orBelow g 0

@@ -35,13 +35,20 @@ module _ (a : ℕ) (ys xs : List ℕ) (fits : a + length ys ≤ length xs) where
   pub length-putPart : length (putPart a ys xs) ≡ length xs
   unfolding putPart
   length-putPart =
-      omega (arith, length-append (take a xs) (ys ++ drop (a + length ys) xs), length-append ys (drop (a + length ys) xs), length-take-le a xs (omega arith), length-drop (a + length ys) xs)
+      omega (
+        arith,
+        length-append (take a xs) (ys ++ drop (a + length ys) xs),
+        length-append ys (drop (a + length ys) xs),
+        length-take-le a xs (omega arith),
+        length-drop (a + length ys) xs,
+      )
 
   -- before the part, in it, and after it
   pub getD-before : (i d : ℕ) → i < a → getD (putPart a ys xs) i d ≡ getD xs i d
   unfolding putPart
   getD-before i d h =
-      List·getD-append (take a xs) (ys ++ drop (a + length ys) xs) d i (omega (arith, length-take-le a xs (omega arith))) ∙ getD-take a xs i d h
+      List·getD-append (take a xs) (ys ++ drop (a + length ys) xs) d i (omega (arith, length-take-le a xs (omega arith)))
+      ∙ getD-take a xs i d h
 
   shifted : (i d : ℕ) → getD (putPart a ys xs) (a + i) d ≡ getD (ys ++ drop (a + length ys) xs) i d
   unfolding putPart
@@ -63,7 +70,8 @@ module _ (a : ℕ) (ys xs : List ℕ) (fits : a + length ys ≤ length xs) where
   -- the part is what was put there
   pub part-same : part a (length ys) (putPart a ys xs) ≡ ys
   part-same =
-      let l : length (part a (length ys) (putPart a ys xs)) ≡ length ys = length-part a (length ys) (putPart a ys xs) (omega (arith, length-putPart)) in
+      let l : length (part a (length ys) (putPart a ys xs)) ≡ length ys = length-part a (length ys) (putPart a ys xs)
+      (omega (arith, length-putPart)) in
       ext-getD 0 (part a (length ys) (putPart a ys xs)) ys l
       (λ i h. getD-part a (length ys) (putPart a ys xs) i 0 (omega arith) ∙ getD-within i 0 (omega arith))
 

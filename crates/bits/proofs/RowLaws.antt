@@ -1,13 +1,15 @@
 -- The laws of the numbers below n that have f: how many they are, their list, ascending, and the smallest.
 use mathlib.Core.Path.{_≡_, refl, sym, ap, ap₂, _∙_, subst}
 use mathlib.Core.Bool.{Bool, true, false, cond}
-use mathlib.Core.List.{List, [], _∷_, _++_, append-nil, List·Memᴰ, List·Memᴰ·head, List·Memᴰ·tail, List·Memᴰ·not-nil, List·Memᴰ·append-cases, List·Memᴰ·eq-of-singleton, Memᴰ·append-left, Memᴰ·append-right}
+use mathlib.Core.List.{List, [], _∷_, _++_, append-nil, List·Memᴰ, List·Memᴰ·head, List·Memᴰ·tail, List·Memᴰ·not-nil}
+use mathlib.Core.List.{List·Memᴰ·append-cases, List·Memᴰ·eq-of-singleton, Memᴰ·append-left, Memᴰ·append-right}
 use mathlib.Core.Option.{Option, none, some, Option·none-ne-some, Option·some-ne-none, Option·some-injective}
 use mathlib.Core.Logic.{⊎-elim, _↔_}
 use Prim.Native.Nat.{ℕ, zero, suc, _+_, _-_, _*_, _/_, _%_, _^_, _≤_, _<_, zero-le}
 use native.Mathlib.Omega.{arith}
 use native.Mathlib.Numerals.{add-one, one-add}
-use native.Mathlib.Nat.{not-suc-le-zero, eq-or-lt-of-le, le-of-suc-le-suc, lt-suc-self, add-zero, add-suc, add-assoc, zero-add, mod-lt, zero-lt-suc, div-lt-iff-lt-mul, pow-suc, le-add-right}
+use native.Mathlib.Nat.{not-suc-le-zero, eq-or-lt-of-le, le-of-suc-le-suc, lt-suc-self, add-zero, add-suc, add-assoc, zero-add, mod-lt}
+use native.Mathlib.Nat.{zero-lt-suc, div-lt-iff-lt-mul, pow-suc, le-add-right}
 use lib.Dec.{eqb}
 use lib.Arith.{lt-one}
 use lib.Count.{ones, ones-step}
@@ -52,7 +54,8 @@ module _ (f : ℕ → Bool) where
 
       none : (n : ℕ) → countBelow f n ≡ 0 → (k : ℕ) → k < n → f k ≡ false
       none zero e k h = absurd (not-suc-le-zero h)
-      none (suc n) e k h = ⊎-elim (λ (s : k ≡ n). ap f s ∙ one (f n) (omega arith)) (λ (l : k < n). none n (omega arith) k l) (eq-or-lt-of-le (le-of-suc-le-suc h))
+      none (suc n) e k h = ⊎-elim (λ (s : k ≡ n). ap f s ∙ one (f n) (omega arith)) (λ (l : k < n). none n (omega arith) k l)
+          (eq-or-lt-of-le (le-of-suc-le-suc h))
 
       no : (n : ℕ) → ((k : ℕ) → k < n → f k ≡ false) → countBelow f n ≡ 0
       no zero h = refl
@@ -87,7 +90,8 @@ module _ (f : ℕ → Bool) where
   mem-rows zero r h e = absurd (not-suc-le-zero h)
   mem-rows (suc n) r h e =
       ⊎-elim
-      (λ s. Memᴰ·append-right (rowsBelow f n) (subst (λ (t : Bool). List·Memᴰ r (cond t (n ∷ []) [])) (sym (ap f (sym s) ∙ e)) (List·Memᴰ·head s)))
+      (λ s. Memᴰ·append-right (rowsBelow f n)
+      (subst (λ (t : Bool). List·Memᴰ r (cond t (n ∷ []) [])) (sym (ap f (sym s) ∙ e)) (List·Memᴰ·head s)))
       (λ l. Memᴰ·append-left (cond (f n) (n ∷ []) []) (mem-rows n r l e)) (eq-or-lt-of-le (le-of-suc-le-suc h))
 
 -- two functions that agree below n
@@ -95,7 +99,8 @@ module _ (f g : ℕ → Bool) where
   pub rows-ext : (n : ℕ) → ((k : ℕ) → k < n → f k ≡ g k) → rowsBelow f n ≡ rowsBelow g n
   unfolding rowsBelow
   rows-ext zero h = refl
-  rows-ext (suc n) h = ap₂ (λ (l : List ℕ) (t : Bool). l ++ cond t (n ∷ []) []) (rows-ext n (λ k l. h k (omega arith))) (h n (lt-suc-self n))
+  rows-ext (suc n) h = ap₂ (λ (l : List ℕ) (t : Bool). l ++ cond t (n ∷ []) []) (rows-ext n (λ k l. h k (omega arith)))
+      (h n (lt-suc-self n))
 
   pub count-ext : (n : ℕ) → ((k : ℕ) → k < n → f k ≡ g k) → countBelow f n ≡ countBelow g n
   unfolding countBelow
@@ -121,13 +126,15 @@ unfolding countBelow ones
 ones-count zero w h = ap ones (lt-one h)
 ones-count (suc n) w h =
     ones-step w
-    ∙ ap₂ (λ (x y : ℕ). x + y) (parity (w % 2) (mod-lt w (zero-lt-suc 1)) ∙ ap (λ (t : Bool). cond t 1 0) (sym (bit-zero w)) ∙ sym (zero-add (cond (bit w 0) 1 0)))
+    ∙ ap₂ (λ (x y : ℕ). x + y) (parity (w % 2) (mod-lt w (zero-lt-suc 1)) ∙ ap (λ (t : Bool). cond t 1 0) (sym (bit-zero w))
+    ∙ sym (zero-add (cond (bit w 0) 1 0)))
     (ones-count n (w / 2) (div-lt-iff-lt-mul (zero-lt-suc 1) .1 (subst (λ (x : ℕ). w < x) (pow-suc 2 n) h))
     ∙ count-ext (bit (w / 2)) (λ k. bit w (1 + k)) n (λ k l. sym (ap (bit w) (one-add k) ∙ bit-suc w k)))
     ∙ sym (count-split (bit w) 1 n) ∙ ap (countBelow (bit w)) (one-add n)
 
 -- one more word
-pub count-word : (ws : List ℕ) (i : ℕ) → Words ws → countBelow (bitAt ws) ((i + 1) * 64) ≡ countBelow (bitAt ws) (i * 64) + ones (getD ws i 0)
+pub count-word : (ws : List ℕ) (i : ℕ) → Words ws
+    → countBelow (bitAt ws) ((i + 1) * 64) ≡ countBelow (bitAt ws) (i * 64) + ones (getD ws i 0)
 count-word ws i h =
     let e : (i + 1) * 64 ≡ i * 64 + 64 = omega arith in
     ap (countBelow (bitAt ws)) e ∙ count-split (bitAt ws) (i * 64) 64
@@ -149,16 +156,19 @@ rows-ascend f zero i j l h = absurd (not-suc-le-zero h)
 rows-ascend f (suc n) i j l h = step (f n) (rowsBelow f n) (rows-ascend f n) (λ k m. rows-at f n k m .0) i j l h
   where
     step : (t : Bool) (xs : List ℕ) → Ascending xs → ((k : ℕ) → k < length xs → getD xs k 0 < n) → Ascending (xs ++ cond t (n ∷ []) [])
-    step false xs a b i j l h = subst (λ (t : List ℕ). (i j : ℕ) → i < j → j < length t → getD t i 0 < getD t j 0) (sym (append-nil xs)) a i j l h
+    step false xs a b i j l h = subst (λ (t : List ℕ). (i j : ℕ) → i < j → j < length t → getD t i 0 < getD t j 0)
+        (sym (append-nil xs)) a i j l h
     step true xs a b i j l h =
         let len : length (xs ++ (n ∷ [])) ≡ length xs + 1 = length-append xs (n ∷ []) in
         let first : getD (xs ++ (n ∷ [])) i 0 ≡ getD xs i 0 = List·getD-append xs (n ∷ []) 0 i (omega arith) in
         ⊎-elim
-        (λ (m : j < length xs). subst (λ (x : ℕ). x < getD (xs ++ (n ∷ [])) j 0) (sym first) (subst (λ (y : ℕ). getD xs i 0 < y) (sym (List·getD-append xs (n ∷ []) 0 j m)) (a i j l m)))
+        (λ (m : j < length xs). subst (λ (x : ℕ). x < getD (xs ++ (n ∷ [])) j 0) (sym first)
+        (subst (λ (y : ℕ). getD xs i 0 < y) (sym (List·getD-append xs (n ∷ []) 0 j m)) (a i j l m)))
         (λ (m : length xs ≤ j).
         let e : j ≡ length xs = omega arith in
         subst (λ (x : ℕ). x < getD (xs ++ (n ∷ [])) j 0) (sym first)
-        (subst (λ (y : ℕ). getD xs i 0 < y) (sym (ap (λ (k : ℕ). getD (xs ++ (n ∷ [])) k 0) e ∙ getD-append-seam xs n [] 0)) (b i (omega arith)))) (lt-cases j (length xs))
+        (subst (λ (y : ℕ). getD xs i 0 < y) (sym (ap (λ (k : ℕ). getD (xs ++ (n ∷ [])) k 0) e ∙ getD-append-seam xs n [] 0))
+        (b i (omega arith)))) (lt-cases j (length xs))
 
 -- where no number at or above n has f, more numbers add no row
 pub where-cut : (f : ℕ → Bool) (n m : ℕ) → ((r : ℕ) → n ≤ r → f r ≡ false) → n ≤ m → rowsBelow f m ≡ rowsBelow f n
@@ -179,7 +189,8 @@ module _ (f : ℕ → Bool) where
   none-of : (n : ℕ) → ((k : ℕ) → k < n → f k ≡ false) → smallestBelow f n ≡ none
   unfolding smallestBelow
   none-of zero h = refl
-  none-of (suc n) h = ap₂ (λ (o : Option ℕ) (t : Bool). orElse o (cond t (some n) none)) (none-of n (λ k l. h k (omega arith))) (h n (lt-suc-self n))
+  none-of (suc n) h = ap₂ (λ (o : Option ℕ) (t : Bool). orElse o (cond t (some n) none)) (none-of n (λ k l. h k (omega arith)))
+      (h n (lt-suc-self n))
 
   of-none : (n : ℕ) → smallestBelow f n ≡ none → (k : ℕ) → k < n → f k ≡ false
   unfolding smallestBelow
@@ -201,8 +212,10 @@ module _ (f : ℕ → Bool) where
   some-of zero a s = absurd (not-suc-le-zero (s .below))
   some-of (suc n) a s =
       ⊎-elim
-      (λ (e : a ≡ n). ap₂ (λ (o : Option ℕ) (t : Bool). orElse o (cond t (some n) none)) (none-of n (λ k l. s .least k (omega arith))) (ap f (sym e) ∙ s .has) ∙ ap some (sym e))
-      (λ (l : a < n). ap (λ (o : Option ℕ). orElse o (cond (f n) (some n) none)) (some-of n a (record { below = l; has = s .has; least = s .least })))
+      (λ (e : a ≡ n). ap₂ (λ (o : Option ℕ) (t : Bool). orElse o (cond t (some n) none)) (none-of n (λ k l. s .least k (omega arith)))
+      (ap f (sym e) ∙ s .has) ∙ ap some (sym e))
+      (λ (l : a < n). ap (λ (o : Option ℕ). orElse o (cond (f n) (some n) none))
+      (some-of n a (record { below = l; has = s .has; least = s .least })))
       (eq-or-lt-of-le (le-of-suc-le-suc (s .below)))
 
   of-some : (n a : ℕ) → smallestBelow f n ≡ some a → Smallest f n a

@@ -35,7 +35,8 @@ module _ {A : Type 0} where
   getD-tab g zero i d h = absurd (not-suc-le-zero h)
   getD-tab g (suc n) i d h =
       ⊎-elim
-      (λ e. ap (λ (k : ℕ). getD (tab g n ++ (g n ∷ [])) k d) (e ∙ sym (length-tab g n)) ∙ getD-append-seam (tab g n) (g n) [] d ∙ ap g (sym e))
+      (λ e. ap (λ (k : ℕ). getD (tab g n ++ (g n ∷ [])) k d) (e ∙ sym (length-tab g n)) ∙ getD-append-seam (tab g n) (g n) [] d
+      ∙ ap g (sym e))
       (λ l. List·getD-append (tab g n) (g n ∷ []) d i (subst (λ (k : ℕ). i < k) (sym (length-tab g n)) l) ∙ getD-tab g n i d l)
       (eq-or-lt-of-le (le-of-suc-le-suc h))
 

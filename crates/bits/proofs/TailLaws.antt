@@ -24,7 +24,8 @@ module _ (ws : List ℕ) (n : ℕ) where
   unfolding tailClear
   tail-bits e r h =
       ⊎-elim
-      (λ (l : r < length ws * 64). not-true (bitAt ws r) (ap (λ (t : Bool). t || not (bitAt ws r)) (sym (le-ltb r n h)) ∙ all-at (belowOrClear ws n) (length ws * 64) e r l))
+      (λ (l : r < length ws * 64). not-true (bitAt ws r) (ap (λ (t : Bool). t || not (bitAt ws r)) (sym (le-ltb r n h))
+      ∙ all-at (belowOrClear ws n) (length ws * 64) e r l))
       (bitAt-above ws r) (lt-cases r (length ws * 64))
 
   pub tail-of-bits : ((r : ℕ) → n ≤ r → bitAt ws r ≡ false) → tailClear ws n ≡ true
@@ -52,19 +53,23 @@ module _ (ws : List ℕ) where
   word-clear w i s h =
       bit-none 64 (getD ws i 0 / 2 ^ s) (lt-of-le-of-lt (shr-le (getD ws i 0) s) (w i))
       (λ k m. bit-shr (getD ws i 0) s k
-      ∙ ⊎-elim (λ (l : s + k < 64). sym (bit-of-word ws i (s + k) l) ∙ h (i * 64 + (s + k)) (omega arith)) (bit-above 64 (getD ws i 0) (s + k) (w i))
+      ∙ ⊎-elim (λ (l : s + k < 64). sym (bit-of-word ws i (s + k) l) ∙ h (i * 64 + (s + k)) (omega arith))
+      (bit-above 64 (getD ws i 0) (s + k) (w i))
       (lt-cases (s + k) 64))
 
-  pub tail-words : (n : ℕ) → Words ws → n / 64 < length ws → eqb (getD ws (n / 64) 0 / 2 ^ (n % 64)) 0 && zerosFrom ws (n / 64 + 1) ≡ tailClear ws n
+  pub tail-words : (n : ℕ) → Words ws → n / 64 < length ws
+      → eqb (getD ws (n / 64) 0 / 2 ^ (n % 64)) 0 && zerosFrom ws (n / 64 + 1) ≡ tailClear ws n
   unfolding zerosFrom
   tail-words n w h =
       same-truth (first && later) (tailClear ws n)
-      (λ e. tail-of-bits ws n (λ r l. clear r l (eqb-true (getD ws (n / 64) 0 / 2 ^ (n % 64)) 0 (and-eq-true-iff first later .0 e .0)) (and-eq-true-iff first later .0 e .1)))
+      (λ e. tail-of-bits ws n (λ r l. clear r l (eqb-true (getD ws (n / 64) 0 / 2 ^ (n % 64)) 0 (and-eq-true-iff first later .0 e .0))
+      (and-eq-true-iff first later .0 e .1)))
       (λ e. let z : (r : ℕ) → n ≤ r → bitAt ws r ≡ false = tail-bits ws n e in
       and-eq-true-iff first later .1 (
         eq-eqb (getD ws (n / 64) 0 / 2 ^ (n % 64)) 0 (word-clear w (n / 64) (n % 64) (λ r l. z r (omega arith))),
         all-of zero? (length ws - (n / 64 + 1))
-            (λ i l. eq-eqb (getD ws (n / 64 + 1 + i) 0) 0 (sym (div-one (getD ws (n / 64 + 1 + i) 0)) ∙ word-clear w (n / 64 + 1 + i) 0 (λ r m. z r (omega arith)))),
+            (λ i l. eq-eqb (getD ws (n / 64 + 1 + i) 0) 0 (sym (div-one (getD ws (n / 64 + 1 + i) 0))
+            ∙ word-clear w (n / 64 + 1 + i) 0 (λ r m. z r (omega arith)))),
       ))
     where
       zero? : ℕ → Bool
@@ -79,11 +84,14 @@ module _ (ws : List ℕ) where
       after : (i : ℕ) → n / 64 < i → later ≡ true → (i < length ws) ⊎ (length ws ≤ i) → getD ws i 0 ≡ 0
       after i l a (inl m) =
           let k : n / 64 + 1 + (i - (n / 64 + 1)) ≡ i = omega arith in
-          ap (λ (j : ℕ). getD ws j 0) (sym k) ∙ eqb-true (getD ws (n / 64 + 1 + (i - (n / 64 + 1))) 0) 0 (all-at zero? (length ws - (n / 64 + 1)) a (i - (n / 64 + 1)) (omega arith))
+          ap (λ (j : ℕ). getD ws j 0) (sym k)
+          ∙ eqb-true (getD ws (n / 64 + 1 + (i - (n / 64 + 1))) 0) 0
+          (all-at zero? (length ws - (n / 64 + 1)) a (i - (n / 64 + 1)) (omega arith))
       after i l a (inr m) = List·getD-eq-default ws 0 m
 
       clear : (r : ℕ) → n ≤ r → getD ws (n / 64) 0 / 2 ^ (n % 64) ≡ 0 → later ≡ true → bitAt ws r ≡ false
       clear r l z a =
           ⊎-elim (λ (e : r / 64 ≡ n / 64). row-clear r (n % 64) (ap (λ (i : ℕ). getD ws i 0 / 2 ^ (n % 64)) e ∙ z) (omega arith))
-          (λ (e : r / 64 ≡ n / 64 → ⊥). row-clear r 0 (div-one (getD ws (r / 64) 0) ∙ after (r / 64) (omega arith) a (lt-cases (r / 64) (length ws))) (omega arith))
+          (λ (e : r / 64 ≡ n / 64 → ⊥). row-clear r 0
+          (div-one (getD ws (r / 64) 0) ∙ after (r / 64) (omega arith) a (lt-cases (r / 64) (length ws))) (omega arith))
           (eq-cases (r / 64) (n / 64))

@@ -28,7 +28,8 @@ module _ (f : ℕ → Bool) where
   pack-lt zero = pow-pos 0
   pack-lt (suc k) = pack-lt-step (f k) (packBits f k) k (pack-lt k)
 
-  bit-pack-step : (t : Bool) (P k j : ℕ) → P < 2 ^ k → (j < k → bit P j ≡ f j) → f k ≡ t → (j ≡ k) ⊎ (j < k) → bit (cond t (setBit P k) P) j ≡ f j
+  bit-pack-step : (t : Bool) (P k j : ℕ) → P < 2 ^ k → (j < k → bit P j ≡ f j) → f k ≡ t → (j ≡ k) ⊎ (j < k)
+      → bit (cond t (setBit P k) P) j ≡ f j
   bit-pack-step true P k j h ih e (inl s) = bit-set P k j ∙ ap (λ (b : Bool). b || bit P j) (eq-eqb k j (sym s)) ∙ sym (ap f s ∙ e)
   bit-pack-step true P k j h ih e (inr l) = bit-set P k j ∙ ap (λ (b : Bool). b || bit P j) (ne-eqb k j (λ s. omega arith)) ∙ ih l
   bit-pack-step false P k j h ih e (inl s) = bit-above k P j h (omega arith) ∙ sym (ap f s ∙ e)
@@ -48,7 +49,8 @@ pub pack-cut : (f : ℕ → Bool) (n m : ℕ) → n ≤ m → ((k : ℕ) → n �
 pack-cut f n m l h =
     bit-ext m (packBits f m) (packBits f n) (pack-lt f m) (lt-of-lt-of-le (pack-lt f n) (pow-mono l))
     (λ k o. bit-pack f m k o
-    ∙ ⊎-elim (λ (p : k < n). sym (bit-pack f n k p)) (λ (p : n ≤ k). h k p o ∙ sym (bit-above n (packBits f n) k (pack-lt f n) p)) (lt-cases k n))
+    ∙ ⊎-elim (λ (p : k < n). sym (bit-pack f n k p)) (λ (p : n ≤ k). h k p o ∙ sym (bit-above n (packBits f n) k (pack-lt f n) p))
+    (lt-cases k n))
 
 module _ (f : ℕ → Bool) (n : ℕ) where
   pub length-vec : length (vec f n) ≡ n

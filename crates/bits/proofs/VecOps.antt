@@ -31,7 +31,8 @@ module _ (f : ℕ → Bool) (n : ℕ) where
 -- a vector with the rows of another turned over
 pub xor-vec : (a : List ℕ) (f : ℕ → Bool) → Words a → xorWords a (vec f (length a)) ≡ vec (λ r. xorb (bitAt a r) (f r)) (length a)
 xor-vec a f h =
-    vec-unique (λ r. xorb (bitAt a r) (f r)) (length a) (xorWords a (vec f (length a))) (length-xorWords a (vec f (length a))) (words-xor a (vec f (length a)) h (words-vec f (length a)))
+    vec-unique (λ r. xorb (bitAt a r) (f r)) (length a) (xorWords a (vec f (length a))) (length-xorWords a (vec f (length a)))
+    (words-xor a (vec f (length a)) h (words-vec f (length a)))
     (λ r l. bitAt-xor a (vec f (length a)) r l ∙ ap (xorb (bitAt a r)) (bitAt-vec f (length a) r l))
 
 module _ (f : ℕ → Bool) (n r : ℕ) (h : r < n * 64) where
@@ -41,13 +42,15 @@ module _ (f : ℕ → Bool) (n r : ℕ) (h : r < n * 64) where
   -- a row made `on` is the function changed at that row
   pub put-vec : (on : Bool) → putAt (vec f n) r on ≡ vec (λ q. cond (eqb r q) on (f q)) n
   put-vec on =
-      vec-unique (λ q. cond (eqb r q) on (f q)) n (putAt (vec f n) r on) (length-put (vec f n) r on ∙ length-vec f n) (words-put (vec f n) r on (words-vec f n))
+      vec-unique (λ q. cond (eqb r q) on (f q)) n (putAt (vec f n) r on) (length-put (vec f n) r on ∙ length-vec f n)
+      (words-put (vec f n) r on (words-vec f n))
       (λ q l. bitAt-put on (vec f n) r inside q ∙ ap (cond (eqb r q) on) (bitAt-vec f n q l))
 
 -- words of 0 have no row
 module _ (n : ℕ) where
   zero-at : (i : ℕ) → _≡_ {A = ℕ} (getD (replicate n 0) i 0) 0
-  zero-at i = ⊎-elim (λ (l : i < n). getD-replicate n i 0 0 l) (λ (l : n ≤ i). List·getD-eq-default (replicate n 0) 0 (omega (arith, length-replicate {A = ℕ} n 0))) (lt-cases i n)
+  zero-at i = ⊎-elim (λ (l : i < n). getD-replicate n i 0 0 l)
+      (λ (l : n ≤ i). List·getD-eq-default (replicate n 0) 0 (omega (arith, length-replicate {A = ℕ} n 0))) (lt-cases i n)
 
   pub bitAt-zeros : (r : ℕ) → bitAt (replicate n 0) r ≡ false
   unfolding bitAt
@@ -55,4 +58,5 @@ module _ (n : ℕ) where
 
   pub zeros-vec : replicate n 0 ≡ vec (λ r. false) n
   zeros-vec =
-      vec-unique (λ r. false) n (replicate n 0) (length-replicate n 0) (λ i. subst (λ (x : ℕ). x < 2 ^ 64) (sym (zero-at i)) (lit< tt)) (λ r l. bitAt-zeros r)
+      vec-unique (λ r. false) n (replicate n 0) (length-replicate n 0) (λ i. subst (λ (x : ℕ). x < 2 ^ 64) (sym (zero-at i)) (lit< tt))
+      (λ r l. bitAt-zeros r)

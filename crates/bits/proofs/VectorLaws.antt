@@ -36,7 +36,8 @@ module _ (ws : List ℕ) (a n : ℕ) (fits : a + n ≤ length ws) where
   pub words-part : Words ws → Words (part a n ws)
   words-part w i =
       ⊎-elim (λ (l : i < n). subst (λ (x : ℕ). x < 2 ^ 64) (sym (getD-part a n ws i 0 l)) (w (a + i)))
-      (λ (l : n ≤ i). subst (λ (x : ℕ). x < 2 ^ 64) (sym (List·getD-eq-default (part a n ws) 0 (subst (λ (x : ℕ). x ≤ i) (sym (length-part a n ws fits)) l))) (lit< tt))
+      (λ (l : n ≤ i). subst (λ (x : ℕ). x < 2 ^ 64)
+      (sym (List·getD-eq-default (part a n ws) 0 (subst (λ (x : ℕ). x ≤ i) (sym (length-part a n ws fits)) l))) (lit< tt))
       (lt-cases i n)
 
 pub part-vec : (f : ℕ → Bool) (m a n : ℕ) → a + n ≤ m → part a n (vec f m) ≡ vec (λ r. f (a * 64 + r)) n
@@ -67,7 +68,8 @@ pub rest-more : (ws : List ℕ) (from a j all : ℕ) → from ≤ j → all ≡ 
     → bitOr all (getD ws (a + j) 0) ≡ orFrom (λ k. getD ws (a + k) 0) from (j + 1)
 rest-more ws from a j all h q = from-more (λ k. getD ws (a + k) 0) from j all h q
 
-pub rest-end : (ws : List ℕ) (from i a j all : ℕ) → a ≡ 32 * i → j ≤ 32 → 32 ≤ j → all ≡ orFrom (λ k. getD ws (a + k) 0) from j → all ≡ restOf ws from i
+pub rest-end : (ws : List ℕ) (from i a j all : ℕ) → a ≡ 32 * i → j ≤ 32 → 32 ≤ j → all ≡ orFrom (λ k. getD ws (a + k) 0) from j
+    → all ≡ restOf ws from i
 unfolding restOf
 rest-end ws from i a j all e h l q =
     let z : j ≡ 32 = omega arith in
@@ -97,10 +99,14 @@ module _ (ws : List ℕ) (n row : ℕ) (w : Words ws) (fits : 32 * n ≤ length 
       (λ k m. ap (λ (x : ℕ). eqb x 0) (sym (getD-vectorAt ws i (omega arith) (from + k) (omega arith))))
       ∙ ap (λ (x : ℕ). allBelow (λ k. eqb (getD (vectorAt ws i) (from + k) 0) 0) (x - from)) (sym (length-vectorAt ws i (omega arith))))
 
-  pub tails-words : row / 64 < 32 → eqb (wordOfAll ws n (row / 64) / 2 ^ (row % 64)) 0 && zerosOfAll ws n (row / 64 + 1) ≡ tailsClear ws n row
+  pub tails-words : row / 64 < 32 → eqb (wordOfAll ws n (row / 64) / 2 ^ (row % 64)) 0 && zerosOfAll ws n (row / 64 + 1)
+      ≡ tailsClear ws n row
   unfolding tailsClear
-  tails-words h = ap₂ (λ (a b : Bool). a && b) (firsts h) (laters (row / 64 + 1)) ∙ sym (all-and first (λ i. zerosFrom (vectorAt ws i) (row / 64 + 1)) n) ∙ all-ext (λ i. first i && zerosFrom (vectorAt ws i) (row / 64 + 1)) (λ i. tailClear (vectorAt ws i) row) n (λ i l. one i l h)
+  tails-words h = ap₂ (λ (a b : Bool). a && b) (firsts h) (laters (row / 64 + 1))
+      ∙ sym (all-and first (λ i. zerosFrom (vectorAt ws i) (row / 64 + 1)) n)
+      ∙ all-ext (λ i. first i && zerosFrom (vectorAt ws i) (row / 64 + 1)) (λ i. tailClear (vectorAt ws i) row) n (λ i l. one i l h)
 
   pub tails-past : 32 ≤ row / 64 → tailsClear ws n row ≡ true
   unfolding tailsClear
-  tails-past h = all-of (λ i. tailClear (vectorAt ws i) row) n (λ i l. tail-past (vectorAt ws i) row (omega (arith, length-vectorAt ws i (omega arith))))
+  tails-past h = all-of (λ i. tailClear (vectorAt ws i) row) n
+      (λ i l. tail-past (vectorAt ws i) row (omega (arith, length-vectorAt ws i (omega arith))))

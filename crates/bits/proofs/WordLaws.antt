@@ -34,7 +34,8 @@ pub bitAt-ext : (a b : List ℕ) → length a ≡ length b → Words a → Words
     → ((r : ℕ) → r < length a * 64 → bitAt a r ≡ bitAt b r) → a ≡ b
 bitAt-ext a b e p q h =
     ext-getD 0 a b e
-    (λ i l. bit-ext 64 (getD a i 0) (getD b i 0) (p i) (q i) (λ k m. sym (bit-of-word a i k m) ∙ h (i * 64 + k) (omega arith) ∙ bit-of-word b i k m))
+    (λ i l. bit-ext 64 (getD a i 0) (getD b i 0) (p i) (q i) (λ k m. sym (bit-of-word a i k m) ∙ h (i * 64 + k) (omega arith)
+    ∙ bit-of-word b i k m))
 
 pub bit-put : (on : Bool) (w k j : ℕ) → bit (putBit w k on) j ≡ cond (eqb k j) on (bit w j)
 bit-put true w k j = bit-set w k j ∙ go (eqb k j) (bit w j)
@@ -89,7 +90,8 @@ pub words-set : (ws : List ℕ) (i w : ℕ) → Words ws → w < 2 ^ 64 → Word
 words-set ws i w h l j =
     ⊎-elim
     (λ (e : j ≡ i).
-    ⊎-elim (λ (m : i < length ws). subst (λ (x : ℕ). x < 2 ^ 64) (sym (ap (λ (k : ℕ). getD (set ws i w) k 0) e ∙ getD-set-same ws i w 0 m)) l)
+    ⊎-elim (λ (m : i < length ws). subst (λ (x : ℕ). x < 2 ^ 64)
+    (sym (ap (λ (k : ℕ). getD (set ws i w) k 0) e ∙ getD-set-same ws i w 0 m)) l)
     (λ (m : length ws ≤ i). subst (λ (t : List ℕ). getD t j 0 < 2 ^ 64) (sym (set-out ws i w m)) (h j)) (lt-cases i (length ws)))
     (λ (n : j ≡ i → ⊥). subst (λ (x : ℕ). x < 2 ^ 64) (sym (getD-set-other ws i j w 0 n)) (h j)) (eq-cases j i)
 
@@ -99,13 +101,15 @@ put-lt false w k h l = clear-lt 64 w k h l
 
 pub words-put : (ws : List ℕ) (r : ℕ) (on : Bool) → Words ws → Words (putAt ws r on)
 unfolding putAt
-words-put ws r on h = words-set ws (r / 64) (putBit (getD ws (r / 64) 0) (r % 64) on) h (put-lt on (getD ws (r / 64) 0) (r % 64) (h (r / 64)) (omega arith))
+words-put ws r on h = words-set ws (r / 64) (putBit (getD ws (r / 64) 0) (r % 64) on) h
+    (put-lt on (getD ws (r / 64) 0) (r % 64) (h (r / 64)) (omega arith))
 
 -- a table of words
 pub words-tab : (g : ℕ → ℕ) (n : ℕ) → ((i : ℕ) → g i < 2 ^ 64) → Words (tab g n)
 words-tab g n h i =
     ⊎-elim (λ (l : i < n). subst (λ (x : ℕ). x < 2 ^ 64) (sym (getD-tab g n i 0 l)) (h i))
-    (λ (l : n ≤ i). subst (λ (x : ℕ). x < 2 ^ 64) (sym (List·getD-eq-default (tab g n) 0 (subst (λ (x : ℕ). x ≤ i) (sym (length-tab g n)) l))) (lit< tt))
+    (λ (l : n ≤ i). subst (λ (x : ℕ). x < 2 ^ 64)
+    (sym (List·getD-eq-default (tab g n) 0 (subst (λ (x : ℕ). x ≤ i) (sym (length-tab g n)) l))) (lit< tt))
     (lt-cases i n)
 
 pub words-xor : (a b : List ℕ) → Words a → Words b → Words (xorWords a b)

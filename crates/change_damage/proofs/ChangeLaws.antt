@@ -18,7 +18,8 @@ use Rattle.tables.specs.Cells.{valuesIn, stampIn, changesIn, recordRows, record
 use Rattle.tables.specs.Clock.{clockIn}
 use Rattle.tables.specs.Damage.{allIn, clockFits, recordsFit, changesFit}
 use Rattle.tables.proofs.Tests.{both, and-both, found-true}
-use Rattle.tables.proofs.Facts.{in-at, in-of, clock-limits, end-next, ends-order, rows-order, end-high, each-change, change-now, changes-made}
+use Rattle.tables.proofs.Facts.{in-at, in-of, clock-limits, end-next, ends-order, rows-order, end-high, each-change, change-now}
+use Rattle.tables.proofs.Facts.{changes-made}
 use Rattle.change_damage.specs.Parts.{Gathered, rowBelow, recordRowsFit, Alike, Rising}
 use Rattle.tables.proofs.Fold.{in-none, in-join, in-one}
 

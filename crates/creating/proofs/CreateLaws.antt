@@ -175,11 +175,13 @@ columns-written p z d col e q =
     (λ r l. ap (λ (t : Bool). t || columnBit col r) (ap (λ (w : List ℕ). bitAt w r) e ∙ bitAt-vec (λ r. false) (length p) r l))
 
 -- the first n words
-words-made : (f : ℕ → Bool) (n : ℕ) (d words : List ℕ) → n ≤ length words → d ≡ vec f (length (take n words)) → d ++ drop n words ≡ over (vec f n) words
+words-made : (f : ℕ → Bool) (n : ℕ) (d words : List ℕ) → n ≤ length words → d ≡ vec f (length (take n words))
+    → d ++ drop n words ≡ over (vec f n) words
 words-made f n d words h e =
     ap₂ (λ (x : List ℕ) (k : ℕ). x ++ drop k words) (e ∙ ap (vec f) (length-take-le n words h)) (sym (length-vec f n))
 
-clock-made : (clock : List ℕ) (c rows : ℕ) → 6 ≤ length clock → putClock clock c rows 0 rows c 0 ≡ over (c ∷ rows ∷ 0 ∷ rows ∷ c ∷ 0 ∷ []) clock
+clock-made : (clock : List ℕ) (c rows : ℕ) → 6 ≤ length clock
+    → putClock clock c rows 0 rows c 0 ≡ over (c ∷ rows ∷ 0 ∷ rows ∷ c ∷ 0 ∷ []) clock
 unfolding putClock
 clock-made clock c rows h = sets-eq (c ∷ rows ∷ 0 ∷ rows ∷ c ∷ 0 ∷ []) clock 0 h
 
@@ -195,11 +197,24 @@ module _ (clock slots words heads log changes : List ℕ) where
     front-needs = (omega (arith, front-length), f .few-rows)
 
   pub create-made : (clock′ slots′ d heads′ log′ changes′ col : List ℕ) (c rows : ℕ) → Creatable clock slots words heads log changes c col
-      → rows ≡ length col → slots′ ≡ over (tab (below c) 288) slots → heads′ ≡ over (tab (below c) 32) heads → log′ ≡ over (replicate 2048 0) log
-      → changes′ ≡ over (replicate 4096 0) changes → d ≡ vec (columnBit col) (length (take 3072 words)) → clock′ ≡ putClock clock c rows 0 rows c 0
-      → Created (tables clock slots words heads log changes) (tables clock′ slots′ (d ++ drop 3072 words) heads′ log′ changes′) c col (Count rows)
+      → rows ≡ length col → slots′ ≡ over (tab (below c) 288) slots → heads′ ≡ over (tab (below c) 32) heads
+      → log′ ≡ over (replicate 2048 0) log
+      → changes′ ≡ over (replicate 4096 0) changes → d ≡ vec (columnBit col) (length (take 3072 words))
+      → clock′ ≡ putClock clock c rows 0 rows c 0
+      → Created (tables clock slots words heads log changes) (tables clock′ slots′ (d ++ drop 3072 words) heads′ log′ changes′) c col
+      (Count rows)
   create-made clock′ slots′ d heads′ log′ changes′ col c rows f n es eh el ec ew ek = record {
-    made = λ ts. rw (es, eh, el, ec, ek, words-made (columnBit col) 3072 d words (f .room .words-room) ew, n, clock-made clock c (length col) (f .room .clock-room));
+    made = λ ts. rw (
+      es,
+      eh,
+      el,
+      ec,
+      ek,
+      words-made (columnBit col) 3072 d words (f .room .words-room) ew,
+      n,
+      clock-made clock c
+          (length col) (f .room .clock-room),
+    );
     answers = ap Count n;
   }
 

@@ -68,7 +68,8 @@ module _ (t : Tables) (o : Observer) (g : Good t) (w : Inv (meaning t) o) where
 -- ---- any run
 
 -- every run keeps the tables good and the rules in step with the observer
-run-right : (asks : List Ask) (t : Tables) (o : Observer) → Good t → Inv (meaning t) o → RightAt (tablesAfter t asks) (observes o (transcriptOf t asks))
+run-right : (asks : List Ask) (t : Tables) (o : Observer) → Good t → Inv (meaning t) o
+    → RightAt (tablesAfter t asks) (observes o (transcriptOf t asks))
 unfolding observes
 run-right [] t o g w = right-at t o g w
 run-right (a ∷ asks) t o g w =

@@ -71,7 +71,8 @@ module _ (C : ℕ) (col : Column) (good : badColumn C col ≡ false) (n : ℕ) (
   pub reads : (r : ℕ) → r < length col → step begun (read n r) .1 ≡ value (cell col r)
   unfolding tests effect started
   reads r low =
-      let q : refusal begun (read n r) ≡ none = fail-all (tests begun (read n r)) (place-fits, (rw own, (rw own (lt-leb (length col) r low), tt))) in
+      let q : refusal begun (read n r) ≡ none = fail-all (tests begun (read n r))
+      (place-fits, (rw own, (rw own (lt-leb (length col) r low), tt))) in
       let e = accepted-takes-effect begun (read n r) q in
       let y = rw e at (right begun sat inv (read n r)) in
       ap (λ x. x .1) e ∙ ap value (y .cell-is ∙ rw take-nil)
@@ -83,7 +84,8 @@ module _ (C : ℕ) (col : Column) (good : badColumn C col ≡ false) (n : ℕ) (
       rw (take-nil k) (length-rows _ (length col) ∙ count-none _ (length col) .1 (λ r l. sym (turn-none false (holds (cell col r) v))))
 
   -- the observer lists the column's rows
-  listed-rows : (v threshold count : ℕ) (due : Bool) (rows : List ℕ) → Lists sat n v threshold count due rows → ListsRows col v (listed count due rows)
+  listed-rows : (v threshold count : ℕ) (due : Bool) (rows : List ℕ) → Lists sat n v threshold count due rows
+      → ListsRows col v (listed count due rows)
   unfolding started
   listed-rows v threshold count due rows y =
       let z : count ≡ 0 = y .flips-are ∙ still (y .since) v in
@@ -103,7 +105,8 @@ module _ (C : ℕ) (col : Column) (good : badColumn C col ≡ false) (n : ℕ) (
       let e = accepted-takes-effect begun c q in
       rw e (listed-rows v threshold _ _ _ (rw e at (right begun sat inv c)))
 
-module _ (t : Tables) (room : roomy t ≡ true) (C : ℕ) (col : List ℕ) (good : badColumn C (columnOf col) ≡ false) (n : ℕ) (place : n < 16) where
+module _ (t : Tables) (room : roomy t ≡ true) (C : ℕ) (col : List ℕ) (good : badColumn C (columnOf col) ≡ false) (n : ℕ)
+    (place : n < 16) where
   -- create answers the row count
   creates : told t (create C col) ≡ ok (length col ∷ [])
   unfolding createOf refusalOfCreate unless tests
@@ -137,7 +140,8 @@ module _ (t : Tables) (room : roomy t ≡ true) (C : ℕ) (col : List ℕ) (good
     stays-good = fresh .1;
     begins = tells made (fresh .1) (begin n) ∙ rw (fresh .0, begins C (columnOf col) good n place, length-map col valueOf);
     reads =
-        λ r l. tells sitting-down (opening .stays-good) (read n r) ∙ rw means (reads C (columnOf col) good n place r (rw (length-map col valueOf) l));
+        λ r l. tells sitting-down (opening .stays-good) (read n r)
+        ∙ rw means (reads C (columnOf col) good n place r (rw (length-map col valueOf) l));
     lists =
         λ scratch size v threshold low.
         rw (tells sitting-down (opening .stays-good) (query scratch n v threshold), means)

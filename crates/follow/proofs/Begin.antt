@@ -63,7 +63,8 @@ module _ (t : Tables) (g : Good t) (n : ℕ) where
   again : n < 16 → x .live ≡ 1 → Meets t (begin n) (beginning t n x)
   unfolding effect beginning
   again l v =
-      meets-by t (begin n) (beginning t n x) (outcome t [] (numbers (x .start .0 ∷ x .rows .0 ∷ []))) (meaning t) (ok (x .start .0 ∷ x .rows .0 ∷ []))
+      meets-by t (begin n) (beginning t n x) (outcome t [] (numbers (x .start .0 ∷ x .rows .0 ∷ []))) (meaning t)
+      (ok (x .start .0 ∷ x .rows .0 ∷ []))
       (rw (eq-eqb (x .live) 1 v)) (ap (rules.beginning (meaning t) n) (seat-means t n ∙ open-means x v)) refl refl g
 
   -- a free one is opened

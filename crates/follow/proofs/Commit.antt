@@ -173,7 +173,8 @@ module _ (t : Tables) (s v : ℕ) where
   abbrev tidied : Tables
   tidied =
       tables tidyClock tidySlots tidyWords (putHead (t .heads) v (slotsIn (t .clock)))
-      (newLog (t .clock) (t .log) 2 (rowsIn (t .clock)) tidyEnd) (putChanges (t .changes) (changesIn (t .clock)) tidiedChanges) (t .sessions)
+      (newLog (t .clock) (t .log) 2 (rowsIn (t .clock)) tidyEnd) (putChanges (t .changes) (changesIn (t .clock)) tidiedChanges)
+      (t .sessions)
 
   tidy-stores : stores t (tidyStores t s v) ≡ tidied
   tidy-stores =
@@ -183,7 +184,8 @@ module _ (t : Tables) (s v : ℕ) where
       log-stores t (tables (t .clock) tidySlots tidyWords (putHead (t .heads) v k) (t .log) (t .changes) (t .sessions))
       (wordStores (32 * k) tidyVector ++ slotCell k v ∷ slotCell (96 + k) stamp ∷ slotCell (192 + k) link ∷ headCell v k ∷ [])
       (clockCell 2 stamp ∷ clockCell 3 (rowsIn (t .clock)) ∷ clockCell 4 (k + 1) ∷ clockCell 5 tidyEnd ∷ [])
-      (version-stores t (32 * k) tidyVector k v stamp link) (changesIn (t .clock)) tidiedChanges (stampIn (t .clock)) 2 (rowsIn (t .clock)) tidyEnd
+      (version-stores t (32 * k) tidyVector k v stamp link) (changesIn (t .clock)) tidiedChanges (stampIn (t .clock)) 2
+      (rowsIn (t .clock)) tidyEnd
 
 -- a change for each moved row
 tidy-size : (log : Log) (s v : ℕ) → length (tidyChanges log s v) ≡ length (moved log s v)
@@ -239,7 +241,12 @@ module _ (t : Tables) (g : Good t) (s v : ℕ) (f : TidyFits t s v) where
         slot-low = f .slots-fit;
         slots-room = good-room t g .slots-room;
         words-room = good-room t g .words-room;
-        head-room = omega (arith, f .value-fits, clock-limits (t .clock) (good-parts t g .clock-fits) .few-values, good-room t g .heads-room);
+        head-room = omega (
+          arith,
+          f .value-fits,
+          clock-limits (t .clock) (good-parts t g .clock-fits) .few-values,
+          good-room t g .heads-room,
+        );
         size = length-vec (queried (meaning t .log) (chain (meaning t .chains) v) s v) 32;
       }
 
@@ -247,7 +254,8 @@ module _ (t : Tables) (g : Good t) (s v : ℕ) (f : TidyFits t s v) where
   query-low : (r : ℕ) → rowsIn (t .clock) ≤ r → queried (meaning t .log) (chain (meaning t .chains) v) s v r ≡ false
   query-low r h =
       let u = means-undamaged t (g .whole) in
-      queried-beyond (meaning t .values) (meaning t .first) (meaning t .rows) (meaning t .log) (u .log-fits) (chain (meaning t .chains) v) s v r
+      queried-beyond (meaning t .values) (meaning t .first) (meaning t .rows) (meaning t .log) (u .log-fits)
+      (chain (meaning t .chains) v) s v r
       (u .vectors-fit v (rw (values-means t) (f .value-fits))) (rw (rows-means t) h)
 
   -- the rows of its words are those of the query
@@ -261,7 +269,8 @@ module _ (t : Tables) (g : Good t) (s v : ℕ) (f : TidyFits t s v) where
   version =
       ap₂ (λ (k : ℕ) (w : ℕ → Bool). record { stamp = k; vector = w }) (add-one (stampIn (t .clock)) ∙ ap suc (sym (stamp-means t))) vector
 
-  front : newVersion (t .clock) (tidyVector t s v) ∷ chainAt (t .slots) (t .words) (t .heads) v ≡ tidyVersion (meaning t) s v ∷ chain (meaning t .chains) v
+  front : newVersion (t .clock) (tidyVector t s v) ∷ chainAt (t .slots) (t .words) (t .heads) v
+      ≡ tidyVersion (meaning t) s v ∷ chain (meaning t .chains) v
   front = ap₂ (λ (x : Version) (xs : Chain). x ∷ xs) version (sym (chain-means t v (f .value-fits)))
 
   -- the cells mean the rules' tidy-next state
@@ -282,7 +291,8 @@ module _ (t : Tables) (g : Good t) (s v : ℕ) (f : TidyFits t s v) where
   -- no bit of the new vector is at or above the row count of its stamp
   new-vector : (i : ℕ) → slotsIn (t .clock) ≤ i → i < slotsIn (t .clock) + 1
       → tailClear (slotWords (tidyWords t s v) i)
-      (rowsInLog (firstIn (tidyClock t s v)) (newLog (t .clock) (t .log) 2 (rowsIn (t .clock)) (tidyEnd t s v)) (slotStamp (tidySlots t s v) i)) ≡ true
+      (rowsInLog (firstIn (tidyClock t s v)) (newLog (t .clock) (t .log) 2 (rowsIn (t .clock)) (tidyEnd t s v))
+      (slotStamp (tidySlots t s v) i)) ≡ true
   new-vector i h l =
       let e : i ≡ slotsIn (t .clock) = omega arith in
       rw (e, new-words slot, new-stamp slot, add-one (stampIn (t .clock)), rows-new tidy-next)

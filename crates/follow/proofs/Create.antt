@@ -94,12 +94,22 @@ module _ (t : Tables) (C : ℕ) (col : Column) (f : Fresh t C col) where
 
   sessions-fresh : tab (λ i. sessionOf (sessionAt (t .sessions) i)) 16 ≡ replicate maxSessions free
   sessions-fresh =
-      tab-ext (λ i. sessionOf (sessionAt (t .sessions) i)) (λ i. free) 16 (λ i l. ap sessionOf (f .sessions-free i l) ∙ freed-means) ∙ all-free
+      tab-ext (λ i. sessionOf (sessionAt (t .sessions) i)) (λ i. free) 16 (λ i l. ap sessionOf (f .sessions-free i l) ∙ freed-means)
+      ∙ all-free
 
   pub fresh-means : meaning t ≡ created C col
   unfolding meaning created tab
   fresh-means =
-      rw (f .values-are, f .first-are, f .rows-are, f .stamp-is, f .slots-are, tab-ext (chainAt (t .slots) (t .words) (t .heads)) (firstChain col) C chain-fresh, sessions-fresh)
+      rw (
+        f .values-are,
+        f .first-are,
+        f .rows-are,
+        f .stamp-is,
+        f .slots-are,
+        tab-ext (chainAt (t .slots) (t .words) (t .heads))
+            (firstChain col) C chain-fresh,
+        sessions-fresh,
+      )
 
   fresh-parts : 1 ≤ C → C ≤ maxValues → length col ≤ maxRows → Parts t
   fresh-parts low high rows =
@@ -118,7 +128,11 @@ module _ (t : Tables) (C : ℕ) (col : Column) (f : Fresh t C col) where
         heads-fit =
             heads-made c (t .slots) (t .heads)
             (λ v l. let k : v < C = omega (arith, f .values-are) in
-            record { head-low = omega (arith, f .head-is v k, f .slots-are); head-value = ap (slotValue (t .slots)) (f .head-is v k) ∙ f .value-is v k });
+            record {
+              head-low = omega (arith, f .head-is v k, f .slots-are);
+              head-value = ap (slotValue (t .slots)) (f .head-is v k)
+                  ∙ f .value-is v k;
+            });
         vectors-fit = vectors-made c (t .log) (t .slots) (t .words) (λ i l. clear i (omega (arith, f .slots-are)));
         sessions-fit =
             sessions-made c (t .log) (t .sessions)
@@ -128,7 +142,8 @@ module _ (t : Tables) (C : ℕ) (col : Column) (f : Fresh t C col) where
       clear : (i : ℕ) → i < C → tailClear (slotWords (t .words) i) (rowsInLog (firstIn (t .clock)) (t .log) (slotStamp (t .slots) i)) ≡ true
       clear i l =
           rw (f .stamp-zero i l)
-          (tail-of-bits (slotWords (t .words) i) (firstIn (t .clock)) (λ r h. f .vector-is i l r ∙ past-absent col i r (omega (arith, f .first-are))))
+          (tail-of-bits (slotWords (t .words) i) (firstIn (t .clock))
+          (λ r h. f .vector-is i l r ∙ past-absent col i r (omega (arith, f .first-are))))
 
   pub fresh-good : Room t → 1 ≤ C → C ≤ maxValues → length col ≤ maxRows → Good t
   fresh-good room low high rows = record {
@@ -165,14 +180,16 @@ holds-means col v r h =
   where
     one : (b : ℕ) → (b ≡ 255) ⊎ (b ≡ 255 → ⊥) → eqb b v ≡ holds (valueOf b) v
     one b s =
-        ⊎-elim (λ (e : b ≡ 255). ne-eqb b v (λ q. omega arith) ∙ sym (ap (λ (x : ℕ). holds (valueOf x) v) e ∙ ap (λ (o : Option ℕ). holds o v) value-none))
+        ⊎-elim (λ (e : b ≡ 255). ne-eqb b v (λ q. omega arith)
+        ∙ sym (ap (λ (x : ℕ). holds (valueOf x) v) e ∙ ap (λ (o : Option ℕ). holds o v) value-none))
         (λ (d : b ≡ 255 → ⊥). sym (ap (λ (o : Option ℕ). holds o v) (value-some b d))) s
 
 -- the vector of a value, of n words
 module _ (col d : List ℕ) (n v : ℕ) (l : v < 32) (few : length col ≤ 2048) (h : 32 * v + 32 ≤ n) where
   words-fresh : slotWords (over (vec (columnBit col) n) d) v ≡ vec (λ r. columnBit col (2048 * v + r)) 32
   unfolding slotWords vectorAt part
-  words-fresh = over-part (vec (columnBit col) n) d (32 * v) 32 (omega (arith, length-vec (columnBit col) n)) ∙ vectorAt-vec (columnBit col) n v h
+  words-fresh = over-part (vec (columnBit col) n) d (32 * v) 32 (omega (arith, length-vec (columnBit col) n))
+      ∙ vectorAt-vec (columnBit col) n v h
 
   vector-fresh : (r : ℕ) → bitAt (slotWords (over (vec (columnBit col) n) d) v) r ≡ holds (cell (columnOf col) r) v
   unfolding columnBit
@@ -227,8 +244,11 @@ module _ (t : Tables) (room : Room t) (c : ℕ) (col : List ℕ) where
   unfolding maxValues maxRows
   made e =
       let g = good-column c (columnOf col) e in
-      let f = created-fresh (g .values-fit) (omega (arith, g .column-fits, length-map col valueOf)) in
-      (fresh-means after c (columnOf col) f, fresh-good after c (columnOf col) f created-room (g .some-value) (g .values-fit) (g .column-fits))
+      let f = created-fresh (g .values-fit) (omega (arith, g .column-fits, length-map col valueOf)) in (
+        fresh-means after c (columnOf col) f,
+        fresh-good after c (columnOf col) f created-room (g .some-value) (g .values-fit)
+            (g .column-fits),
+      )
 
 -- ---- the call
 

@@ -54,7 +54,8 @@ unfolding freed
 freed-wide = record { at-wide = length-replicate {A = ℕ} 32 0; to-wide = length-replicate {A = ℕ} 32 0 }
 
 -- what holds of every session, and of the one stored, holds of every session then
-stored : (P : Session → Type 0) (ts : List Session) (i : ℕ) (x : Session) → P x → (j : ℕ) → P (sessionAt ts j) → P (sessionAt (set ts i x) j)
+stored : (P : Session → Type 0) (ts : List Session) (i : ℕ) (x : Session) → P x → (j : ℕ) → P (sessionAt ts j)
+    → P (sessionAt (set ts i x) j)
 stored P ts i x p j q = go (eq-cases j i) (lt-cases i (length ts))
   where
     go : (j ≡ i) ⊎ (j ≡ i → ⊥) → (i < length ts) ⊎ (length ts ≤ i) → P (sessionAt (set ts i x) j)
@@ -71,7 +72,8 @@ pub sessions-set : (c log : List ℕ) (ts : List Session) (i : ℕ) (x : Session
     → sessionFits (valuesIn c) (firstIn c) (stampIn c) log x ≡ true → sessionsFit c log (set ts i x) ≡ true
 sessions-set c log ts i x e f =
     sessions-made c log (set ts i x)
-    (λ j l. stored (λ (y : Session). sessionFits (valuesIn c) (firstIn c) (stampIn c) log y ≡ true) ts i x f j (each-session c log ts e j l))
+    (λ j l. stored (λ (y : Session). sessionFits (valuesIn c) (firstIn c) (stampIn c) log y ≡ true) ts i x f j
+    (each-session c log ts e j l))
 
 -- a session that is free, or open as it must be, keeps the tables good
 pub good-seated : (t : Tables) (i : ℕ) (x : Session) → Good t → Wide x

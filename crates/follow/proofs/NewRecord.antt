@@ -65,16 +65,33 @@ six P h (a ∷ b ∷ c ∷ d ∷ []) r = absurd (omega arith)
 six P h (a ∷ b ∷ c ∷ d ∷ e ∷ []) r = absurd (omega arith)
 six P h (a ∷ b ∷ c ∷ d ∷ e ∷ f ∷ l) r = h a b c d e f l
 
-pub commit-clock : (c : List ℕ) (rows end : ℕ) → 6 ≤ length c → Later c (set (set (set c 2 (stampIn c + 1)) 3 rows) 5 end) rows (slotsIn c) end
+pub commit-clock : (c : List ℕ) (rows end : ℕ) → 6 ≤ length c
+    → Later c (set (set (set c 2 (stampIn c + 1)) 3 rows) 5 end) rows (slotsIn c) end
 commit-clock c rows end =
     six (λ (l : List ℕ). Later l (set (set (set l 2 (stampIn l + 1)) 3 rows) 5 end) rows (slotsIn l) end)
-    (λ a b c d e f l. record { values-kept = refl; first-kept = refl; stamp-next = refl; rows-now = refl; slots-now = refl; changes-now = refl }) c
+    (λ a b c d e f l. record {
+      values-kept = refl;
+      first-kept = refl;
+      stamp-next = refl;
+      rows-now = refl;
+      slots-now = refl;
+      changes-now
+          = refl;
+    }) c
 
 pub tidy-clock : (c : List ℕ) (rows slots end : ℕ) → 6 ≤ length c
     → Later c (set (set (set (set c 2 (stampIn c + 1)) 3 rows) 4 slots) 5 end) rows slots end
 tidy-clock c rows slots end =
     six (λ (l : List ℕ). Later l (set (set (set (set l 2 (stampIn l + 1)) 3 rows) 4 slots) 5 end) rows slots end)
-    (λ a b c d e f l. record { values-kept = refl; first-kept = refl; stamp-next = refl; rows-now = refl; slots-now = refl; changes-now = refl }) c
+    (λ a b c d e f l. record {
+      values-kept = refl;
+      first-kept = refl;
+      stamp-next = refl;
+      rows-now = refl;
+      slots-now = refl;
+      changes-now
+          = refl;
+    }) c
 
 -- its sentence of "Damaged tables"
 pub clock-later : {c c′ : List ℕ} {rows slots end : ℕ} → Later c c′ rows slots end → clockFits c ≡ true → rows ≤ 2048 → stampIn c < 512
@@ -147,7 +164,8 @@ module _ {c c′ log : List ℕ} {kind rows slots end : ℕ} (k : NextRecord c c
 
   -- ---- changes: the old ones as they were, and those of the new record
 
-  change-old : (changes changes′ : List ℕ) → changesFit c log changes ≡ true → ((p : ℕ) → p < changesIn c → changeAt changes′ p ≡ changeAt changes p)
+  change-old : (changes changes′ : List ℕ) → changesFit c log changes ≡ true
+      → ((p : ℕ) → p < changesIn c → changeAt changes′ p ≡ changeAt changes p)
       → (j p : ℕ) → j < stampIn c → endAt (newLog c log kind rows end) j ≤ p → p < endAt (newLog c log kind rows end) (suc j)
       → ChangeFacts changes′ (valuesIn c′) (rowsInLog (firstIn c′) (newLog c log kind rows end) (suc j)) p
   change-old changes changes′ e same j p h a b =
@@ -167,12 +185,15 @@ module _ {c c′ log : List ℕ} {kind rows slots end : ℕ} (k : NextRecord c c
       (changes-fit-at changes′ (valuesIn c) rows (changesIn c) end f p
       (omega (arith, ends-old (stampIn c) (omega arith), last-end c log (k .records-fit))) (omega (arith, ends-new)))
 
-  pub changes-later : (changes changes′ : List ℕ) → changesFit c log changes ≡ true → ((p : ℕ) → p < changesIn c → changeAt changes′ p ≡ changeAt changes p)
-      → ChangesFit (valuesIn c) rows (stretch (changeAt changes′) (changesIn c) end) → changesFit c′ (newLog c log kind rows end) changes′ ≡ true
+  pub changes-later : (changes changes′ : List ℕ) → changesFit c log changes ≡ true
+      → ((p : ℕ) → p < changesIn c → changeAt changes′ p ≡ changeAt changes p)
+      → ChangesFit (valuesIn c) rows (stretch (changeAt changes′) (changesIn c) end)
+      → changesFit c′ (newLog c log kind rows end) changes′ ≡ true
   changes-later changes changes′ e same f =
       changes-made c′ (newLog c log kind rows end) changes′ (λ j p l. go j p (old-or-new j l))
     where
-      go : (j p : ℕ) → (j ≡ stampIn c) ⊎ (j < stampIn c) → endAt (newLog c log kind rows end) j ≤ p → p < endAt (newLog c log kind rows end) (suc j)
+      go : (j p : ℕ) → (j ≡ stampIn c) ⊎ (j < stampIn c) → endAt (newLog c log kind rows end) j ≤ p
+          → p < endAt (newLog c log kind rows end) (suc j)
           → ChangeFacts changes′ (valuesIn c′) (rowsInLog (firstIn c′) (newLog c log kind rows end) (suc j)) p
       go j p (inl q) = rw q (change-new changes′ f p)
       go j p (inr h) = change-old changes changes′ e same j p h
@@ -186,7 +207,8 @@ module _ {c c′ log : List ℕ} {kind rows slots end : ℕ} (k : NextRecord c c
       (⊎-elim (λ (z : ZeroFacts x). inl z) (λ (f : OpenFacts (valuesIn c) (firstIn c) (stampIn c) log x). inr (still f))
       (session-facts (valuesIn c) (firstIn c) (stampIn c) log x e))
     where
-      still : OpenFacts (valuesIn c) (firstIn c) (stampIn c) log x → OpenFacts (valuesIn c′) (firstIn c′) (stampIn c′) (newLog c log kind rows end) x
+      still : OpenFacts (valuesIn c) (firstIn c) (stampIn c) log x
+          → OpenFacts (valuesIn c′) (firstIn c′) (stampIn c′) (newLog c log kind rows end) x
       still f =
           record {
             live-one = f .live-one;
@@ -197,9 +219,11 @@ module _ {c c′ log : List ℕ} {kind rows slots end : ℕ} (k : NextRecord c c
             listed-once = f .listed-once;
           }
 
-  pub sessions-later : (sessions : List Session) → sessionsFit c log sessions ≡ true → sessionsFit c′ (newLog c log kind rows end) sessions ≡ true
+  pub sessions-later : (sessions : List Session) → sessionsFit c log sessions ≡ true
+      → sessionsFit c′ (newLog c log kind rows end) sessions ≡ true
   sessions-later sessions e =
-      sessions-made c′ (newLog c log kind rows end) sessions (λ i l. session-later (sessionAt sessions i) (each-session c log sessions e i l))
+      sessions-made c′ (newLog c log kind rows end) sessions
+      (λ i l. session-later (sessionAt sessions i) (each-session c log sessions e i l))
 
 -- the last record of a log that fits
 pub last-fits : (C n m : ℕ) (log : Log) (x : Record) → LogFits C n (grown log x) m → ChangesFit C (x .rows) (x .changes)
@@ -213,15 +237,18 @@ module _ {c c′ log : List ℕ} {kind rows slots end : ℕ} (k : NextRecord c c
   old-changes p l = changes-before changes (changesIn c) cs (omega arith) p l
 
   new-changes : stretch (changeAt (putChanges changes (changesIn c) cs)) (changesIn c) end ≡ cs
-  new-changes = ap (stretch (changeAt (putChanges changes (changesIn c) cs)) (changesIn c)) size ∙ changes-put changes (changesIn c) cs (omega arith) room
+  new-changes = ap (stretch (changeAt (putChanges changes (changesIn c) cs)) (changesIn c)) size
+      ∙ changes-put changes (changesIn c) cs (omega arith) room
 
   pub grown-means : tab (recordAt (newLog c log kind rows end) (putChanges changes (changesIn c) cs)) (stampIn c′)
       ≡ grown (tab (recordAt log changes) (stampIn c)) (record { kind = kindOf kind; rows = rows; changes = cs })
   unfolding grown
   grown-means =
       ap (tab (recordAt (newLog c log kind rows end) (putChanges changes (changesIn c) cs))) (k .later .stamp-next)
-      ∙ log-grown c log changes (k .records-fit) (k .stamp-low) (putChanges changes (changesIn c) cs) kind rows end old-changes (k .log-room)
-      ∙ ap (λ (xs : List Change). tab (recordAt log changes) (stampIn c) ++ (record { kind = kindOf kind; rows = rows; changes = xs } ∷ [])) new-changes
+      ∙ log-grown c log changes (k .records-fit) (k .stamp-low) (putChanges changes (changesIn c) cs) kind rows end old-changes
+      (k .log-room)
+      ∙ ap (λ (xs : List Change). tab (recordAt log changes) (stampIn c) ++ (record { kind = kindOf kind; rows = rows; changes = xs } ∷ []))
+      new-changes
 
   pub grown-changes : changesFit c log changes ≡ true → ChangesFit (valuesIn c) rows cs
       → changesFit c′ (newLog c log kind rows end) (putChanges changes (changesIn c) cs) ≡ true

@@ -42,7 +42,13 @@ pub record SameSlots (used : ℕ) (slots words slots′ words′ : List ℕ) : T
   pub words-same : (i : ℕ) → i < used → slotWords words′ i ≡ slotWords words i
 
 pub same-slots : (used : ℕ) (slots words : List ℕ) → SameSlots used slots words slots words
-same-slots used slots words = record { value-same = λ i l. refl; stamp-same = λ i l. refl; link-same = λ i l. refl; words-same = λ i l. refl }
+same-slots used slots words = record {
+  value-same = λ i l. refl;
+  stamp-same = λ i l. refl;
+  link-same = λ i l. refl;
+  words-same = λ i l.
+      refl;
+}
 
 module _ {used : ℕ} {slots words slots′ words′ : List ℕ} (same : SameSlots used slots words slots′ words′) where
   -- the same versions
@@ -57,7 +63,8 @@ module _ {used : ℕ} {slots words slots′ words′ : List ℕ} (same : SameSlo
     no-link = same .link-same i l ∙ f .no-link;
   }
 
-  later-same : (values stamp stamp′ : ℕ) → stamp ≤ stamp′ → (i : ℕ) → i < used → LaterSlot values stamp slots i → LaterSlot values stamp′ slots′ i
+  later-same : (values stamp stamp′ : ℕ) → stamp ≤ stamp′ → (i : ℕ) → i < used → LaterSlot values stamp slots i
+      → LaterSlot values stamp′ slots′ i
   later-same values stamp stamp′ h i l f =
       let link = same .link-same i l in
       let j = slotLink slots i - 1 in
@@ -73,7 +80,8 @@ module _ {used : ℕ} {slots words slots′ words′ : List ℕ} (same : SameSlo
 
 module _ {c c′ log slots words slots′ words′ : List ℕ} {kind rows used end : ℕ} (k : NextRecord c c′ log kind rows used end)
     (same : SameSlots (slotsIn c) slots words slots′ words′) (e : slotsFit c slots ≡ true) where
-  pub slots-later : valuesIn c ≤ slotsIn c → ((i : ℕ) → slotsIn c ≤ i → i < used → LaterSlot (valuesIn c) (stampIn c + 1) slots′ i) → slotsFit c′ slots′ ≡ true
+  pub slots-later : valuesIn c ≤ slotsIn c → ((i : ℕ) → slotsIn c ≤ i → i < used → LaterSlot (valuesIn c) (stampIn c + 1) slots′ i)
+      → slotsFit c′ slots′ ≡ true
   slots-later b new =
       slots-made c′ slots′
       (λ i h l. let h′ : i < valuesIn c = omega (arith, k .later .values-kept) in
@@ -90,7 +98,8 @@ module _ {c c′ log slots words slots′ words′ : List ℕ} {kind rows used e
   heads-later heads′ h = heads-made c′ slots′ heads′ (λ v l. rw (k .later .slots-now) (h v (omega (arith, k .later .values-kept))))
 
   pub vectors-later : vectorsFit c log slots words ≡ true
-      → ((i : ℕ) → slotsIn c ≤ i → i < used → tailClear (slotWords words′ i) (rowsInLog (firstIn c′) (newLog c log kind rows end) (slotStamp slots′ i)) ≡ true)
+      → ((i : ℕ) → slotsIn c ≤ i → i < used
+      → tailClear (slotWords words′ i) (rowsInLog (firstIn c′) (newLog c log kind rows end) (slotStamp slots′ i)) ≡ true)
       → vectorsFit c′ (newLog c log kind rows end) slots′ words′ ≡ true
   vectors-later f new =
       vectors-made c′ (newLog c log kind rows end) slots′ words′ (λ i l. go i (omega (arith, k .later .slots-now)) (lt-cases i (slotsIn c)))
@@ -161,9 +170,12 @@ module _ {c slots words heads : List ℕ} {v : ℕ} {ws : List ℕ} (k : NextSlo
   slots-same =
       let link = headOf heads v + 1 in
       record {
-        value-same = λ i l. kept-value slots (slotsIn c) v (stampIn c + 1) link (k .slot-low) i (omega (arith, k .slot-low)) (λ e. omega arith);
-        stamp-same = λ i l. kept-stamp slots (slotsIn c) v (stampIn c + 1) link (k .slot-low) i (omega (arith, k .slot-low)) (λ e. omega arith);
-        link-same = λ i l. kept-link slots (slotsIn c) v (stampIn c + 1) link (k .slot-low) i (omega (arith, k .slot-low)) (λ e. omega arith);
+        value-same = λ i l. kept-value slots (slotsIn c) v (stampIn c + 1) link (k .slot-low) i (omega (arith, k .slot-low))
+            (λ e. omega arith);
+        stamp-same = λ i l. kept-stamp slots (slotsIn c) v (stampIn c + 1) link (k .slot-low) i (omega (arith, k .slot-low))
+            (λ e. omega arith);
+        link-same = λ i l. kept-link slots (slotsIn c) v (stampIn c + 1) link (k .slot-low) i (omega (arith, k .slot-low))
+            (λ e. omega arith);
         words-same = λ i l. words-kept words (slotsIn c) ws (k .size) (k .slot-low) (k .words-room) i l;
       }
 
@@ -197,7 +209,13 @@ module _ {c slots words heads : List ℕ} {v : ℕ} {ws : List ℕ} (k : NextSlo
         link-value = rw (new-link, z) (slots-same .value-same (headOf heads v) (h .head-low) ∙ h .head-value ∙ sym new-value);
         link-stamp =
             rw (new-link, z)
-            (omega (arith, new-stamp, slots-same .stamp-same (headOf heads v) (h .head-low), slot-stamp-low c slots (k .slots-fit) (headOf heads v) (h .head-low)));
+            (omega (
+              arith,
+              new-stamp,
+              slots-same .stamp-same (headOf heads v) (h .head-low),
+              slot-stamp-low c slots (k .slots-fit)
+                  (headOf heads v) (h .head-low),
+            ));
       }
 
   pub new-head : (w : ℕ) → w < valuesIn c → HeadFacts (slotsIn c + 1) (newSlots c slots heads v) (newHeads c heads v) w
@@ -210,7 +228,11 @@ module _ {c slots words heads : List ℕ} {v : ℕ} {ws : List ℕ} (k : NextSlo
       go (inr d) =
           let h = kept-head heads v (slotsIn c) w d in
           let o = head w l in
-          record { head-low = omega (arith, h, o .head-low); head-value = rw h (slots-same .value-same (headOf heads w) (o .head-low) ∙ o .head-value) }
+          record {
+            head-low = omega (arith, h, o .head-low);
+            head-value = rw h (slots-same .value-same (headOf heads w) (o .head-low)
+                ∙ o .head-value);
+          }
 
 -- the version that the new slot holds
 abbrev pub newVersion : List ℕ → List ℕ → Version
@@ -218,7 +240,8 @@ newVersion c ws = record { stamp = stampIn c + 1; vector = bitAt ws }
 
 module _ {c slots words heads : List ℕ} {v : ℕ} {ws : List ℕ} (k : NextSlot c slots words heads v ws) where
   -- from an old slot on, whatever the bounds
-  old-chain : (n m i : ℕ) → i < slotsIn c → i < n → i < m → chainFrom (newSlots c slots heads v) (newWords c words ws) n i ≡ chainFrom slots words m i
+  old-chain : (n m i : ℕ) → i < slotsIn c → i < n → i < m
+      → chainFrom (newSlots c slots heads v) (newWords c words ws) n i ≡ chainFrom slots words m i
   old-chain =
       chain-same (slotsIn c) slots words (newSlots c slots heads v) (newWords c words ws) (λ i l. link-falls c slots (k .slots-fit) i l)
       (slots-same k .link-same)
@@ -230,7 +253,8 @@ module _ {c slots words heads : List ℕ} {v : ℕ} {ws : List ℕ} (k : NextSlo
   new-version = rw (new-stamp k, new-words k)
 
   -- from the new slot on: the chain of v
-  chain-own : chainAt (newSlots c slots heads v) (newWords c words ws) (newHeads c heads v) v ≡ newVersion c ws ∷ chainAt slots words heads v
+  chain-own : chainAt (newSlots c slots heads v) (newWords c words ws) (newHeads c heads v) v
+      ≡ newVersion c ws ∷ chainAt slots words heads v
   unfolding chainAt
   chain-own =
       let old = headOf heads v in
@@ -244,11 +268,13 @@ module _ {c slots words heads : List ℕ} {v : ℕ} {ws : List ℕ} (k : NextSlo
       ∙ old-chain (slotsIn c) (old + 1) old h h (omega arith))
 
   -- the chain of another value
-  chain-other : (w : ℕ) → w < valuesIn c → w ≢ v → chainAt (newSlots c slots heads v) (newWords c words ws) (newHeads c heads v) w ≡ chainAt slots words heads w
+  chain-other : (w : ℕ) → w < valuesIn c → w ≢ v → chainAt (newSlots c slots heads v) (newWords c words ws) (newHeads c heads v) w
+      ≡ chainAt slots words heads w
   unfolding chainAt
   chain-other w l d =
       ap (λ (i : ℕ). chainFrom (newSlots c slots heads v) (newWords c words ws) (i + 1) i) (kept-head heads v (slotsIn c) w d)
-      ∙ old-chain (headOf heads w + 1) (headOf heads w + 1) (headOf heads w) (each-head c slots heads (k .heads-fit) w l .head-low) (omega arith) (omega arith)
+      ∙ old-chain (headOf heads w + 1) (headOf heads w + 1) (headOf heads w) (each-head c slots heads (k .heads-fit) w l .head-low)
+      (omega arith) (omega arith)
 
   -- all chains
   pub chains-mean : tab (chainAt (newSlots c slots heads v) (newWords c words ws) (newHeads c heads v)) (valuesIn c)
@@ -294,7 +320,8 @@ module _ (t : Tables) (g : Good t) where
   pub later-good : {c′ slots′ words′ heads′ : List ℕ} {kind rows used end : ℕ} (k : NextRecord (t .clock) c′ (t .log) kind rows used end)
       → NewSlots t c′ (newLog (t .clock) (t .log) kind rows end) slots′ words′ heads′ used → length c′ ≡ length (t .clock) → rows ≤ 2048
       → (cs : List Change) → end ≡ changesIn (t .clock) + length cs → end ≤ 2048 → ChangesFit (valuesIn (t .clock)) rows cs
-      → Good (tables c′ slots′ words′ heads′ (newLog (t .clock) (t .log) kind rows end) (putChanges (t .changes) (changesIn (t .clock)) cs) (t .sessions))
+      → Good (tables c′ slots′ words′ heads′ (newLog (t .clock) (t .log) kind rows end) (putChanges (t .changes) (changesIn (t .clock)) cs)
+      (t .sessions))
   later-good {c′} {slots′} {words′} {heads′} {kind} {rows} {used} {end} k n long few cs size low fit =
       let c = t .clock in
       let r = good-room t g in

@@ -69,19 +69,22 @@ module _ (t : Tables) (g : Good t) (s v : ℕ) (below : v < valuesIn (t .clock))
   slot-low = omega (arith, seen-used t (g .whole) s v below, clock-limits (t .clock) (good-parts t g .clock-fits) .few-slots)
 
   -- no row is flipped: the version's own rows
-  own-rows : flipsSeen t s v ≡ 0 → rowsOf (pickedFrom (t .words) scratch (some slot)) ≡ queriedRows (meaning t .log) (chain (meaning t .chains) v) s v
+  own-rows : flipsSeen t s v ≡ 0
+      → rowsOf (pickedFrom (t .words) scratch (some slot)) ≡ queriedRows (meaning t .log) (chain (meaning t .chains) v) s v
   unfolding rowsOf queried maxRows
   own-rows z =
       let old = versionAt (chain (meaning t .chains) v) s in
       ap rowsOf (slot-picked (t .words) scratch slot slot-low (good-room t g .words-room))
-      ∙ ap (λ (n : ℕ). rowsBelow (bitAt (slotWords (t .words) slot)) (n * 64)) (length-slotWords (t .words) slot slot-low (good-room t g .words-room))
+      ∙ ap (λ (n : ℕ). rowsBelow (bitAt (slotWords (t .words) slot)) (n * 64))
+      (length-slotWords (t .words) slot slot-low (good-room t g .words-room))
       ∙ rows-ext (bitAt (slotWords (t .words) slot)) (rowsSeen t s v) 2048
       (λ r l. vector-meets t (g .whole) s v r below ∙ sym (xorb-false (old .vector r))
       ∙ ap (xorb (old .vector r)) (sym (count-none (flipped (meaning t .log) (chain (meaning t .chains) v) s v) 2048 .0 z r l)))
 
   -- some are: the scratch's
   turned-rows : 32 ≤ length scratch
-      → rowsOf (pickedFrom (t .words) (over (vec (rowsSeen t s v) 32) scratch) none) ≡ queriedRows (meaning t .log) (chain (meaning t .chains) v) s v
+      → rowsOf (pickedFrom (t .words) (over (vec (rowsSeen t s v) 32) scratch) none)
+      ≡ queriedRows (meaning t .log) (chain (meaning t .chains) v) s v
   unfolding maxRows
   turned-rows room = ap rowsOf (scratch-picked (t .words) scratch (rowsSeen t s v) room) ∙ rowsOf-vec (rowsSeen t s v) 32
 

@@ -85,7 +85,8 @@ module _ (x : Session) (p at to : ℕ) where
       ∙ ap (set (entries x) p) (entry-same w l)
 
 -- an entry after the last
-pub entries-past : (x : Session) (at to : ℕ) → Wide x → x .count < 32 → entries (listedAt x (x .count) at to) ≡ entries x ++ (entryOf at to ∷ [])
+pub entries-past : (x : Session) (at to : ℕ) → Wide x → x .count < 32
+    → entries (listedAt x (x .count) at to) ≡ entries x ++ (entryOf at to ∷ [])
 entries-past x at to w l =
     let p = x .count in
     let f = entryAt (listedAt x p at to) in
@@ -98,7 +99,8 @@ entries-past x at to w l =
 -- a place in a list, or after it, where an entry may stand: no other entry has its row
 module _ (values first stamp : ℕ) (log : List ℕ) (x : Session) (f : OpenFacts values first stamp log x) (w : Wide x) (p at to : ℕ)
     (l : p < 32) (h : p ≤ x .count)
-    (fits : EntryCases values (x .rows .0) at to) (alone : (at ≡ 65535 → ⊥) → (j : ℕ) → j < x .count → j ≢ p → getD (x .at) j 0 ≡ at → ⊥) where
+    (fits : EntryCases values (x .rows .0) at to) (alone : (at ≡ 65535 → ⊥) → (j : ℕ) → j < x .count → j ≢ p → getD (x .at) j 0 ≡ at
+    → ⊥) where
   abbrev y : Session
   y = listedAt x p at to
 
@@ -224,21 +226,25 @@ module _ (x : Session) (r : ℕ) (d : r ≡ 65535 → ⊥) where
   spot-alone values first stamp log f j l n e =
       ⊎-elim (λ (h : j < spotOf x r). spot-of x r .before j h e)
       (λ (h : spotOf x r ≤ j).
-      f .listed-once j (spotOf x r) l (omega arith) (λ z. d (sym e ∙ z)) (spot-of x r .there (omega arith) ∙ sym e)) (lt-cases j (spotOf x r))
+      f .listed-once j (spotOf x r) l (omega arith) (λ z. d (sym e ∙ z)) (spot-of x r .there (omega arith) ∙ sym e))
+      (lt-cases j (spotOf x r))
 
 module _ (t : Tables) (g : Good t) (n : ℕ) (o : Open t n) where
   abbrev x : Session
   x = own t n
 
   -- a call that lists es, where the cells of the changed list mean es and fit
-  pub relisted-meets : (p at to : ℕ) (c : Call) (es : List Entry) → effect (meaning t) c ≡ rules.relisted (meaning t) n (session (meaning t) n) es
-      → entries (listedAt x p at to) ≡ es → OpenFacts (valuesIn (t .clock)) (firstIn (t .clock)) (stampIn (t .clock)) (t .log) (listedAt x p at to)
+  pub relisted-meets : (p at to : ℕ) (c : Call) (es : List Entry)
+      → effect (meaning t) c ≡ rules.relisted (meaning t) n (session (meaning t) n) es
+      → entries (listedAt x p at to) ≡ es
+      → OpenFacts (valuesIn (t .clock)) (firstIn (t .clock)) (stampIn (t .clock)) (t .log) (listedAt x p at to)
       → Meets t c (putBack t n (listedAt x p at to))
   unfolding withEntry
   relisted-meets p at to c es e q f =
       let y = listedAt x p at to in
       meets-by t c (putBack t n y) (putBack t n y) (seated (meaning t) n (opened (x .start .0) (x .rows .0) es)) (ok (length es ∷ [])) refl
-      (rw (o .means) at e) (seated-means t n (o .place) g y ∙ ap (seated (meaning t) n) (open-means y (f .live-one) ∙ ap (opened (x .start .0) (x .rows .0)) q))
+      (rw (o .means) at e) (seated-means t n (o .place) g y
+      ∙ ap (seated (meaning t) n) (open-means y (f .live-one) ∙ ap (opened (x .start .0) (x .rows .0)) q))
       (ap (λ (k : ℕ). ok (k ∷ [])) (sym (length-entries y) ∙ ap length q)) (good-seated t n y g (listed-wide x p at to (o .wide)) (inr f))
 
   -- a change of a row
@@ -248,7 +254,12 @@ module _ (t : Tables) (g : Good t) (n : ℕ) (o : Open t n) where
     inside = leb-false (x .rows .0) r (rw (o .means) at row-low)
 
     no-insert : r ≡ 65535 → ⊥
-    no-insert e = omega (arith, inside, open-rows-few (t .clock) (t .log) (good-parts t g .clock-fits) (good-parts t g .records-fit) x (o .facts))
+    no-insert e = omega (
+      arith,
+      inside,
+      open-rows-few (t .clock) (t .log) (good-parts t g .clock-fits) (good-parts t g .records-fit) x
+          (o .facts),
+    )
 
     low : spotOf x r < 32
     low = spot-low x r no-insert (o .facts .count-low) (rw (o .means) at room)
@@ -259,7 +270,8 @@ module _ (t : Tables) (g : Good t) (n : ℕ) (o : Open t n) where
     change-meets to fits c target z e =
         relisted-meets (spotOf x r) r to c (put (listOf (session (meaning t) n)) r target) e
         (rw (o .means) (entries-put x r no-insert to (o .wide) low ∙ ap (put (entries x) r) z))
-        (listed-fits (valuesIn (t .clock)) (firstIn (t .clock)) (stampIn (t .clock)) (t .log) x (o .facts) (o .wide) (spotOf x r) r to low (spot-of x r .within)
+        (listed-fits (valuesIn (t .clock)) (firstIn (t .clock)) (stampIn (t .clock)) (t .log) x (o .facts) (o .wide) (spotOf x r) r to low
+        (spot-of x r .within)
         (inl (inside, fits)) (λ d. spot-alone x r d (valuesIn (t .clock)) (firstIn (t .clock)) (stampIn (t .clock)) (t .log) (o .facts)))
 
 pub update-follows : (t : Tables) → Good t → (n r v : ℕ) → Follows t (update n r v) (updateOf t n r v)
@@ -276,7 +288,8 @@ unfolding deleteOf tests effect
 delete-follows t g n r =
     follows t g (delete n r) [] (putBack t n (listedAt (own t n) (spotOf (own t n) r) r 255))
     (λ a. let f = a .fail in
-    change-meets t g n (open-seat t n g (f .0) (f .1 .0)) r (f .1 .1 .0) (f .1 .1 .1 .1 .0) 255 (inr refl) (delete n r) none (target-none 255 refl) refl)
+    change-meets t g n (open-seat t n g (f .0) (f .1 .0)) r (f .1 .1 .0) (f .1 .1 .1 .1 .0) 255 (inr refl) (delete n r) none
+    (target-none 255 refl) refl)
 
 module _ (t : Tables) (g : Good t) (n v : ℕ) where
   accepted : Open t n → v < valuesIn (t .clock) → isFull (listOf (session (meaning t) n)) ≡ false

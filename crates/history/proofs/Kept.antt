@@ -21,7 +21,8 @@ module _ (changes other : List ℕ) (n : ℕ) (same : (p : ℕ) → p < n → ch
   pub set-kept : (a m row : ℕ) → m ≤ n → lastSet changes a m row ≡ lastSet other a m row
   unfolding lastSet
   set-kept a m row h =
-      ap (λ (cs : List Change). orEmpty (lastNaming cs row)) (stretch-same (changeAt changes) (changeAt other) a m (λ j p q. same j (omega arith)))
+      ap (λ (cs : List Change). orEmpty (lastNaming cs row))
+      (stretch-same (changeAt changes) (changeAt other) a m (λ j p q. same j (omega arith)))
 
   pub flipped-kept : (a m v row : ℕ) → m ≤ n → flippedIn changes a m v row ≡ flippedIn other a m v row
   unfolding flippedIn

@@ -52,7 +52,8 @@ module _ (t : Tables) (good : sound t ≡ true) where
   pub stamp-meets : (s v : ℕ) → v < valuesIn (t .clock)
       → slotStamp (t .slots) (slotSeen (t .slots) (t .heads) s v) ≡ versionAt (chain (meaning t .chains) v) s .stamp
   stamp-meets s v below =
-      sym (ap (λ (x : Version). x .stamp) (version-meets s v below) ∙ version-stamp (t .slots) (t .words) (slotSeen (t .slots) (t .heads) s v))
+      sym (ap (λ (x : Version). x .stamp) (version-meets s v below)
+      ∙ version-stamp (t .slots) (t .words) (slotSeen (t .slots) (t .heads) s v))
 
   pub vector-meets : (s v r : ℕ) → v < valuesIn (t .clock)
       → bitAt (slotWords (t .words) (slotSeen (t .slots) (t .heads) s v)) r ≡ versionAt (chain (meaning t .chains) v) s .vector r
@@ -90,7 +91,8 @@ module _ (t : Tables) (good : sound t ≡ true) where
       unfolding baseSeen flippedIn lastSet flipped
       flipped-meets r =
           ap (λ (cs : List Change). bit (orEmpty (lastNaming cs r)) v)
-          (sym (between-means t (parts t good .records-fit) (slotStamp (t .slots) (slotSeen (t .slots) (t .heads) s v)) s (seen-old s v below) low)
+          (sym (between-means t (parts t good .records-fit) (slotStamp (t .slots) (slotSeen (t .slots) (t .heads) s v)) s
+          (seen-old s v below) low)
           ∙ ap (λ (b : ℕ). changesOf (between (meaning t .log) b s)) (stamp-meets s v below))
 
       pub queried-meets : (r : ℕ) → queriedAt (t .slots) (t .words) (t .heads) (t .log) (t .changes) s v r
@@ -98,7 +100,8 @@ module _ (t : Tables) (good : sound t ≡ true) where
       unfolding queriedAt queriedSince baseSeen queried
       queried-meets r = ap₂ xorb (vector-meets s v r below) (flipped-meets r)
 
-      pub count-meets : foundAt (t .slots) (t .heads) (t .log) (t .changes) s v .flips ≡ flipCount (meaning t .log) (chain (meaning t .chains) v) s v
+      pub count-meets : foundAt (t .slots) (t .heads) (t .log) (t .changes) s v .flips
+          ≡ flipCount (meaning t .log) (chain (meaning t .chains) v) s v
       unfolding foundAt countSince maxRows
       count-meets =
           count-ext (flippedIn (t .changes) (baseSeen (t .slots) (t .heads) (t .log) s v .from) (endAt (t .log) s) v)

@@ -62,7 +62,12 @@ answer slot flips = record { slot = slot; flips = flips }
 module _ (slots words heads log changes scratch : List ℕ) (s v : ℕ) where
   pub flips-rows : (from to : ℕ) → Ready slots words heads log changes scratch s v → to ≡ endAt log s → RowsLow changes from to
   flips-rows from to f e =
-      record { changes-room = f .rows .changes-room; end-low = rw e (f .rows .end-low); rows-low = λ p h l. f .rows .rows-low p (omega arith) (omega arith) }
+      record {
+        changes-room = f .rows .changes-room;
+        end-low = rw e (f .rows .end-low);
+        rows-low = λ p h l. f .rows .rows-low p
+            (omega arith) (omega arith);
+      }
 
   module _ (base : Base) (to n : ℕ) (mask : List ℕ) (b : base ≡ baseSeen slots heads log s v) (t : to ≡ endAt log s)
       (m : mask ≡ vec (flippedIn changes (base .from) to v) 32) (c : n ≡ countOf mask) where
@@ -88,13 +93,16 @@ module _ (slots words heads log changes scratch : List ℕ) (s v : ℕ) where
     unfolding foundAt
     turned-found k q = ap₂ (λ (x : Base) (j : ℕ). answer (x .slot) j) b (q ∙ count-is)
 
-    pub turned-scratch : (n ≡ 0 → ⊥) → (d : List ℕ) → d ≡ frontFilled (λ r. xorb (bitAt (slotWords words (base .slot)) r) (bitAt mask r)) scratch
+    pub turned-scratch : (n ≡ 0 → ⊥) → (d : List ℕ)
+        → d ≡ frontFilled (λ r. xorb (bitAt (slotWords words (base .slot)) r) (bitAt mask r)) scratch
         → d ≡ scratchAt slots words heads log changes scratch s v
     unfolding scratchAt scratchSince frontFilled queriedSince
     turned-scratch z d q =
         let g : Base → ℕ → ℕ → Bool = λ x y r. xorb (bitAt (slotWords words (x .slot)) r) (flippedIn changes (x .from) y v r) in
-        let e : vec (λ r. xorb (bitAt (slotWords words (base .slot)) r) (bitAt mask r)) 32 ≡ vec (g (baseSeen slots heads log s v) (endAt log s)) 32 =
+        let e : vec (λ r. xorb (bitAt (slotWords words (base .slot)) r) (bitAt mask r)) 32 ≡ vec
+        (g (baseSeen slots heads log s v) (endAt log s)) 32 =
         vec-ext (λ r. xorb (bitAt (slotWords words (base .slot)) r) (bitAt mask r)) (g base to) 32
-        (λ r l. ap (xorb (bitAt (slotWords words (base .slot)) r)) (ap (λ (w : List ℕ). bitAt w r) m ∙ bitAt-vec (flippedIn changes (base .from) to v) 32 r l))
+        (λ r l. ap (xorb (bitAt (slotWords words (base .slot)) r))
+        (ap (λ (w : List ℕ). bitAt w r) m ∙ bitAt-vec (flippedIn changes (base .from) to v) 32 r l))
         ∙ ap₂ (λ (x : Base) (y : ℕ). vec (g x y) 32) b t in
         q ∙ ap (λ (w : List ℕ). over w scratch) e ∙ sym (rw (← count-is, ne-eqb n 0 z))

@@ -35,7 +35,8 @@ differs false true = refl
 differs false false = refl
 
 -- what `row_has` knows at its end
-pub has-is : (slots words heads log : List ℕ) (s row v : ℕ) (last : Last) (base : Base) (on off : Bool) → base ≡ baseSeen slots heads log s v
+pub has-is : (slots words heads log : List ℕ) (s row v : ℕ) (last : Last) (base : Base) (on off : Bool)
+    → base ≡ baseSeen slots heads log s v
     → on ≡ bitAt (slotWords words (base .slot)) row → off ≡ lastFlips last (base .from) v
     → not (Bool·beq on off) ≡ hasAfter (baseSeen slots heads log s v) words row last v
 unfolding hasAfter
@@ -89,7 +90,9 @@ after-cells slots words heads log changes values s row =
     (last-flips changes (baseSeen slots heads log s v .from) (endAt log s) v row))
 
 -- what `read_at` knows at its end
-pub read-is : (slots words heads log changes : List ℕ) (values s row to : ℕ) (last : Last) (o : Option ℕ) → to ≡ endAt log s → last ≡ lastOf changes to row
+pub read-is : (slots words heads log changes : List ℕ) (values s row to : ℕ) (last : Last) (o : Option ℕ) → to ≡ endAt log s
+    → last ≡ lastOf changes to row
     → o ≡ readAfter slots words heads log values s row last → o ≡ readCells slots words heads log changes values s row
 read-is slots words heads log changes values s row to last o e q p =
-    p ∙ ap (readAfter slots words heads log values s row) (q ∙ ap (λ (n : ℕ). lastOf changes n row) e) ∙ after-cells slots words heads log changes values s row
+    p ∙ ap (readAfter slots words heads log values s row) (q ∙ ap (λ (n : ℕ). lastOf changes n row) e)
+    ∙ after-cells slots words heads log changes values s row

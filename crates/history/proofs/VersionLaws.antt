@@ -36,11 +36,13 @@ module _ (slots : List ℕ) (s : ℕ) where
   unfolding versionFrom
   enough zero n i h l = absurd (omega arith)
   enough (suc m) zero i h l = absurd (omega arith)
-  enough (suc m) (suc n) i h l = same-rest (λ j. versionFrom slots s m j) (λ j. versionFrom slots s n j) i (λ j k. enough m n j (omega arith) (omega arith))
+  enough (suc m) (suc n) i h l = same-rest (λ j. versionFrom slots s m j) (λ j. versionFrom slots s n j) i
+      (λ j k. enough m n j (omega arith) (omega arith))
 
   version-step : (i : ℕ) → versionSlot slots s i ≡ versionStep slots s (λ j. versionSlot slots s j) i
   unfolding versionSlot versionFrom
-  version-step i = same-rest (λ j. versionFrom slots s i j) (λ j. versionFrom slots s (suc j) j) i (λ j k. enough i (suc j) j k (omega arith))
+  version-step i = same-rest (λ j. versionFrom slots s i j) (λ j. versionFrom slots s (suc j) j) i
+      (λ j k. enough i (suc j) j k (omega arith))
 
   -- what the search meets: a stamp that is low enough, no link, a link that does not fall, the slot before
   module _ (i b : ℕ) (e : b ≡ slotStamp slots i) where
@@ -93,14 +95,17 @@ seen-le slots heads s v = version-le slots s (headOf heads v)
 -- ---- in undamaged tables it is the rules' version
 
 module _ (c slots words : List ℕ) (s : ℕ) (e : slotsFit c slots ≡ true) where
-  from-chain : (n i : ℕ) → i < slotsIn c → i < n → versionAt (chainFrom slots words n i) s ≡ cells.versionAt slots words (versionFrom slots s n i)
+  from-chain : (n i : ℕ) → i < slotsIn c → i < n
+      → versionAt (chainFrom slots words n i) s ≡ cells.versionAt slots words (versionFrom slots s n i)
   unfolding versionAt chainFrom versionFrom versionStep cells.versionAt
   from-chain zero i l m = absurd (omega arith)
   from-chain (suc n) i l m =
       go (leb (slotStamp slots i) s) refl (eqb (slotLink slots i) 0) refl (ltb i (slotLink slots i)) refl (λ j p q. from-chain n j p q)
     where
-      go : (a : Bool) → leb (slotStamp slots i) s ≡ a → (b : Bool) → eqb (slotLink slots i) 0 ≡ b → (d : Bool) → ltb i (slotLink slots i) ≡ d
-          → ((j : ℕ) → j < slotsIn c → j < n → versionAt (chainFrom slots words n j) s ≡ cells.versionAt slots words (versionFrom slots s n j))
+      go : (a : Bool) → leb (slotStamp slots i) s ≡ a → (b : Bool) → eqb (slotLink slots i) 0 ≡ b → (d : Bool)
+          → ltb i (slotLink slots i) ≡ d
+          → ((j : ℕ) → j < slotsIn c → j < n
+          → versionAt (chainFrom slots words n j) s ≡ cells.versionAt slots words (versionFrom slots s n j))
           → cond a (cells.versionAt slots words i) (versionAt (cond b [] (chainFrom slots words n (slotLink slots i - 1))) s)
           ≡ cells.versionAt slots words (cond a i (cond b i (cond d i (versionFrom slots s n (slotLink slots i - 1)))))
       go true p b q d r ih = refl

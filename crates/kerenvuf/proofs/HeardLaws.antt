@@ -21,7 +21,8 @@ use Rattle.history.proofs.Meets.{seen-used}
 use Rattle.outcomes.proofs.Serving.{accepted}
 use Rattle.outcomes.specs.Said.{no, numbers, value, words}
 use Rattle.outcomes.specs.Outcome.{Outcome, unless, refusalAt, refusalOfCreate}
-use Rattle.outcomes.specs.Calls.{own, beginning, columnOf, createOf, beginOf, readOf, updateOf, deleteOf, insertOf, commitOf, tidyOf, abortOf}
+use Rattle.outcomes.specs.Calls.{own, beginning, columnOf, createOf, beginOf, readOf, updateOf, deleteOf, insertOf, commitOf, tidyOf}
+use Rattle.outcomes.specs.Calls.{abortOf}
 use Rattle.outcomes.specs.Query.{flipsSeen, asked, queryOf}
 use Rattle.kerenvuf.specs.Heard.{placeNumber, decoded, Kept, AllHeard}
 use Rattle.kerenvuf.specs.Picked.{placeNamed}

@@ -37,7 +37,8 @@ use Rattle.outcomes.specs.declared.answers.Answer as core
 use Rattle.outcomes.specs.declared.answers.Answer.the-variants.{No, Count, At, Read, Listed}
 use Rattle.outcomes.specs.Said.{Said, no, numbers, value, words, said}
 use Rattle.outcomes.specs.Outcome.{Outcome, outcome, unless}
-use Rattle.outcomes.specs.Calls.{own, reseated, beginning, createOf, beginOf, readOf, updateOf, deleteOf, insertOf, commitOf, tidyOf, abortOf}
+use Rattle.outcomes.specs.Calls.{own, reseated, beginning, createOf, beginOf, readOf, updateOf, deleteOf, insertOf, commitOf, tidyOf}
+use Rattle.outcomes.specs.Calls.{abortOf}
 use Rattle.outcomes.specs.Query.{rowsSeen, flipsSeen, queryOf}
 use Rattle.outcomes.specs.Query as calls
 use Rattle.follow.specs.Heard.{heard}

@@ -45,11 +45,13 @@ first-goes-on (t ∷ ts) us e = go (t .0) e (first-goes-on ts us)
     go false p ih = ih p
 
 -- a third test that fails where the two before it do
-pub first-skips : (a b c : Test) (ts : List Test) → (a .0 ≡ false → b .0 ≡ false → c .0 ≡ false) → firstOf (a ∷ b ∷ c ∷ ts) ≡ firstOf (a ∷ b ∷ ts)
+pub first-skips : (a b c : Test) (ts : List Test) → (a .0 ≡ false → b .0 ≡ false → c .0 ≡ false)
+    → firstOf (a ∷ b ∷ c ∷ ts) ≡ firstOf (a ∷ b ∷ ts)
 first-skips a b c ts h = go (a .0) (b .0) (c .0) h
   where
     go : (x y z : Bool) → (x ≡ false → y ≡ false → z ≡ false)
-        → cond x (some (a .1)) (cond y (some (b .1)) (cond z (some (c .1)) (firstOf ts))) ≡ cond x (some (a .1)) (cond y (some (b .1)) (firstOf ts))
+        → cond x (some (a .1)) (cond y (some (b .1)) (cond z (some (c .1)) (firstOf ts)))
+        ≡ cond x (some (a .1)) (cond y (some (b .1)) (firstOf ts))
     go true y z f = refl
     go false true z f = refl
     go false false z f = ap (λ (w : Bool). cond w (some (c .1)) (firstOf ts)) (f refl refl)
@@ -122,7 +124,8 @@ module _ (clock slots words heads log changes : List ℕ) (places : ℕ) (fit : 
   unfolding enteredBy
   stays ts us k e = go room (fit && fits) e
     where
-      go : (a b : Bool) → cond a (cond b (firstOf ts) (some 2)) (some 1) ≡ some k → some k ≡ cond a (cond b (firstOf (ts ++ us)) (some 2)) (some 1)
+      go : (a b : Bool) → cond a (cond b (firstOf ts) (some 2)) (some 1) ≡ some k
+          → some k ≡ cond a (cond b (firstOf (ts ++ us)) (some 2)) (some 1)
       go true true z = sym (first-begins ts us k z)
       go true false z = sym z
       go false b z = sym z
@@ -153,7 +156,8 @@ module _ (clock slots words heads log changes : List ℕ) (x : Seat) (n : ℕ) (
     pub opened-stays : (why : Refusal) → test ≡ No why → whyOf test ≡ openedBy clock slots words heads log changes x n
     opened-stays why h =
         ap whyOf h
-        ∙ stays clock slots words heads log changes (x .places) (x .fit) (noSession n ∷ []) (shut x ∷ strange clock x ∷ []) (numberOf why) (sym e ∙ ap whyOf h)
+        ∙ stays clock slots words heads log changes (x .places) (x .fit) (noSession n ∷ []) (shut x ∷ strange clock x ∷ []) (numberOf why)
+        (sym e ∙ ap whyOf h)
 
     module _ (h : test ≡ Passed) where
       placed-none : tests (noSession n ∷ []) ≡ none
@@ -189,7 +193,8 @@ module _ (clock slots words heads log changes : List ℕ) (x : Seat) (n : ℕ) (
     pub valued-stays : (why : Refusal) → test ≡ No why → whyOf test ≡ valuedBy clock slots words heads log changes x n v
     valued-stays why h =
         ap whyOf h
-        ∙ stays clock slots words heads log changes (x .places) (x .fit) (noSession n ∷ shut x ∷ strange clock x ∷ []) (unknown clock v ∷ []) (numberOf why)
+        ∙ stays clock slots words heads log changes (x .places) (x .fit) (noSession n ∷ shut x ∷ strange clock x ∷ [])
+        (unknown clock v ∷ []) (numberOf why)
         (sym e ∙ ap whyOf h)
 
     module _ (h : test ≡ Passed) where
@@ -201,7 +206,8 @@ module _ (clock slots words heads log changes : List ℕ) (x : Seat) (n : ℕ) (
         unfolding clockIn
         left-value =
             ap (λ (d : Clock). cond (leb (d .values .0) v) (some 6) none) k
-            ∙ goes-on clock slots words heads log changes (x .places) (x .fit) (noSession n ∷ shut x ∷ strange clock x ∷ []) (unknown clock v ∷ [])
+            ∙ goes-on clock slots words heads log changes (x .places) (x .fit) (noSession n ∷ shut x ∷ strange clock x ∷ [])
+            (unknown clock v ∷ [])
             (sym e ∙ ap whyOf h)
 
         pub no-value : c .values .0 ≤ v → some 6 ≡ valuedBy clock slots words heads log changes x n v

@@ -52,7 +52,8 @@ abbrev pub bare : List ℕ → List ℕ → List ℕ → List ℕ → List ℕ �
 bare clock slots words heads log changes = tables clock slots words heads log changes (replicate 16 freed)
 
 module _ (clock slots words heads log changes : List ℕ) where
-  bare-room : (places : ℕ) → roomFor clock slots words heads log changes places ≡ true → roomy (bare clock slots words heads log changes) ≡ true
+  bare-room : (places : ℕ) → roomFor clock slots words heads log changes places ≡ true
+      → roomy (bare clock slots words heads log changes) ≡ true
   bare-room places e =
       let r = room-lengths clock slots words heads log changes places e in
       room-made (bare clock slots words heads log changes) (omega (arith, r, length-replicate 16 freed))
@@ -60,7 +61,8 @@ module _ (clock slots words heads log changes : List ℕ) where
   bare-sound : numbersFit clock slots words heads log changes ≡ true → sound (bare clock slots words heads log changes) ≡ true
   bare-sound e =
       let p = number-parts clock slots words heads log changes e in
-      let f : (i : ℕ) → i < 16 → sessionFits (valuesIn clock) (firstIn clock) (stampIn clock) log (sessionAt (replicate 16 freed) i) ≡ true =
+      let f : (i : ℕ) → i < 16 → sessionFits (valuesIn clock) (firstIn clock) (stampIn clock) log
+      (sessionAt (replicate 16 freed) i) ≡ true =
       λ i l. session-made _ _ _ _ _ (inl (rw (getD-replicate 16 i freed freed l) freed-zero)) in
       let z = sessions-made clock log (replicate 16 freed) f in
       whole (bare clock slots words heads log changes) (search)
@@ -199,7 +201,8 @@ module _ (t : Tables) (n : ℕ) (x : Seat) (e : x ≡ seatOf t n) where
 
   sound-is : roomy t ≡ true → x .fit && fits ≡ sound t
   sound-is r =
-      ap (λ (b : Bool). b && fits) (fit-is ∙ ap (λ (b : Bool). b && judged) (le-leb 16 (length (t .sessions)) (room-facts t r .sessions-room)))
+      ap (λ (b : Bool). b && fits)
+      (fit-is ∙ ap (λ (b : Bool). b && judged) (le-leb 16 (length (t .sessions)) (room-facts t r .sessions-room)))
       ∙ and-comm judged fits ∙ judged-sound-lent t r
 
   -- 1 and 2 are judged alike
@@ -208,23 +211,27 @@ module _ (t : Tables) (n : ℕ) (x : Seat) (e : x ≡ seatOf t n) where
   unfolding enteredBy
   entered-at ts = rw (room-is t (x .places) places-are) (go (roomy t) refl)
     where
-      go : (b : Bool) → roomy t ≡ b → cond b (cond (x .fit && fits) (firstOf ts) (some 2)) (some 1) ≡ cond b (cond (sound t) (firstOf ts) (some 2)) (some 1)
+      go : (b : Bool) → roomy t ≡ b
+          → cond b (cond (x .fit && fits) (firstOf ts) (some 2)) (some 1) ≡ cond b (cond (sound t) (firstOf ts) (some 2)) (some 1)
       go true r = ap (λ (g : Bool). cond g (firstOf ts) (some 2)) (sound-is r)
       go false r = refl
 
   -- what the number of a test, and what none, leave of the call's own
   refuses : (ts : List Test) (c : Call) (k : ℕ) → (sound t ≡ true → firstOf ts ≡ some k → firstOf (tests (meaning t) c) ≡ some k)
-      → enteredBy (t .clock) (t .slots) (t .words) (t .heads) (t .log) (t .changes) (x .places) (x .fit) ts ≡ some k → refusalAt t c ≡ some k
+      → enteredBy (t .clock) (t .slots) (t .words) (t .heads) (t .log) (t .changes) (x .places) (x .fit) ts ≡ some k
+      → refusalAt t c ≡ some k
   unfolding refusalAt
   refuses ts c k f z = go (roomy t) (sound t) f (sym (entered-at ts) ∙ z)
     where
-      go : (a b : Bool) → (b ≡ true → firstOf ts ≡ some k → firstOf (tests (meaning t) c) ≡ some k) → cond a (cond b (firstOf ts) (some 2)) (some 1) ≡ some k
+      go : (a b : Bool) → (b ≡ true → firstOf ts ≡ some k → firstOf (tests (meaning t) c) ≡ some k)
+          → cond a (cond b (firstOf ts) (some 2)) (some 1) ≡ some k
           → cond a (cond b (firstOf (tests (meaning t) c)) (some 2)) (some 1) ≡ some k
       go true true g q = g refl q
       go true false g q = q
       go false b g q = q
 
-  goes : (ts : List Test) (c : Call) (rest : List Test) → (sound t ≡ true → firstOf ts ≡ none → firstOf (tests (meaning t) c) ≡ firstOf rest)
+  goes : (ts : List Test) (c : Call) (rest : List Test)
+      → (sound t ≡ true → firstOf ts ≡ none → firstOf (tests (meaning t) c) ≡ firstOf rest)
       → enteredBy (t .clock) (t .slots) (t .words) (t .heads) (t .log) (t .changes) (x .places) (x .fit) ts ≡ none → Goes t c rest
   unfolding refusalAt
   goes ts c rest f z = go (roomy t) (sound t) refl refl (sym (entered-at ts) ∙ z)
@@ -280,7 +287,8 @@ module _ (t : Tables) (n : ℕ) (x : Seat) (e : x ≡ seatOf t n) where
         (q : whyOf test ≡ placedBy (t .clock) (t .slots) (t .words) (t .heads) (t .log) (t .changes) (x .places) (x .fit) n) where
       pub placed-refuses : (why : Refusal) → test ≡ No why → refusalAt t c ≡ some (numberOf why)
       placed-refuses why h =
-          refuses (noSession n ∷ []) c (numberOf why) (λ good z. ap firstOf b ∙ first-begins (noSession n ∷ []) rest (numberOf why) z) (sym q ∙ ap whyOf h)
+          refuses (noSession n ∷ []) c (numberOf why) (λ good z. ap firstOf b ∙ first-begins (noSession n ∷ []) rest (numberOf why) z)
+          (sym q ∙ ap whyOf h)
 
       pub placed-goes : test ≡ Passed → Goes t c rest
       placed-goes h = goes (noSession n ∷ []) c rest (λ good z. ap firstOf b ∙ first-goes-on (noSession n ∷ []) rest z) (sym q ∙ ap whyOf h)

@@ -35,7 +35,8 @@ module _ (x : Session) (row : ℕ) where
     pub spot-here : (n a : ℕ) → n ≡ x .count → i < n → a ≡ getD (x .at) i 0 → a ≡ row → i ≡ spotOf x row
     unfolding spotOf
     spot-here n a p l q r =
-        sym (ap (λ (o : Option ℕ). orPlace o (x .count)) (smallest-here hasRow (x .count) i e (eq-eqb (getD (x .at) i 0) row (sym q ∙ r)) (omega arith)))
+        sym (ap (λ (o : Option ℕ). orPlace o (x .count))
+        (smallest-here hasRow (x .count) i e (eq-eqb (getD (x .at) i 0) row (sym q ∙ r)) (omega arith)))
 
     pub spot-past : (a : ℕ) → a ≡ getD (x .at) i 0 → (a ≡ row → ⊥) → smallestBelow hasRow (i + 1) ≡ none
     spot-past a q d = smallest-past hasRow i e (ne-eqb (getD (x .at) i 0) row (λ z. d (q ∙ z)))
@@ -90,10 +91,12 @@ module _ (x : Session) (i : ℕ) where
 
     pub inserts-row : inserts with ≡ inserts before
     inserts-row =
-        ap inserts with-row ∙ inserts-append before (alter (getD (x .at) i 0) (targetOf (getD (x .to) i 0)) ∷ []) ∙ append-nil (inserts before)
+        ap inserts with-row ∙ inserts-append before (alter (getD (x .at) i 0) (targetOf (getD (x .to) i 0)) ∷ [])
+        ∙ append-nil (inserts before)
 
     pub rows-row : (g : ℕ → Option ℕ → ℕ)
-        → rowChanges g with ≡ rowChanges g before ++ (record { row = getD (x .at) i 0; flips = g (getD (x .at) i 0) (targetOf (getD (x .to) i 0)) } ∷ [])
+        → rowChanges g with ≡ rowChanges g before
+        ++ (record { row = getD (x .at) i 0; flips = g (getD (x .at) i 0) (targetOf (getD (x .to) i 0)) } ∷ [])
     rows-row g = ap (rowChanges g) with-row ∙ rowChanges-append g before (alter (getD (x .at) i 0) (targetOf (getD (x .to) i 0)) ∷ [])
 
 -- ---- how many inserts the first i entries have
@@ -106,7 +109,8 @@ module _ (x : Session) where
   module _ (i k : ℕ) (e : k ≡ length (inserts (tab (entryAt x) i))) where
     pub counted-new : (k′ : ℕ) → k′ ≡ k + 1 → getD (x .at) i 0 ≡ 65535 → k′ ≡ length (inserts (tab (entryAt x) (i + 1)))
     counted-new k′ q new =
-        q ∙ sym (ap length (inserts-new x i new) ∙ length-append (inserts (tab (entryAt x) i)) (getD (x .to) i 0 ∷ []) ∙ ap (λ (n : ℕ). n + 1) (sym e))
+        q ∙ sym (ap length (inserts-new x i new) ∙ length-append (inserts (tab (entryAt x) i)) (getD (x .to) i 0 ∷ [])
+        ∙ ap (λ (n : ℕ). n + 1) (sym e))
 
     pub counted-row : (k′ : ℕ) → k′ ≡ k → (getD (x .at) i 0 ≡ 65535 → ⊥) → k′ ≡ length (inserts (tab (entryAt x) (i + 1)))
     counted-row k′ q old = q ∙ e ∙ sym (ap length (inserts-row x i old))

@@ -40,7 +40,8 @@ narrow-here n l = rw (le-ltb 4294967295 n l)
 -- a number is its own, or both are at least the greatest
 pub narrow-cases : (n : ℕ) → (narrowed n ≡ n) ⊎ ((2048 ≤ narrowed n) × (2048 ≤ n))
 narrow-cases n =
-    ⊎-elim (λ (l : 4294967295 < n). inr (subst (λ (m : ℕ). 2048 ≤ m) (narrow-past n l) (leb→le 2048 4294967295 tt), omega (arith, l, leb→le 2048 4294967295 tt)))
+    ⊎-elim (λ (l : 4294967295 < n). inr
+    (subst (λ (m : ℕ). 2048 ≤ m) (narrow-past n l) (leb→le 2048 4294967295 tt), omega (arith, l, leb→le 2048 4294967295 tt)))
     (λ (l : n ≤ 4294967295). inl (sym (narrow-here n l))) (lt-cases 4294967295 n)
 
 -- ---- two calls that the same test refuses
@@ -58,7 +59,8 @@ module _ (t : Tables) (bs : List (List ℕ)) (o p : Outcome) where
       go true ih = refl
       go false ih = ih
 
-  alike : (c d : Call) (ps : List Test) (a b : Test) (rs us : List Test) → tests (meaning t) c ≡ ps ++ a ∷ rs → tests (meaning t) d ≡ ps ++ b ∷ us
+  alike : (c d : Call) (ps : List Test) (a b : Test) (rs us : List Test) → tests (meaning t) c ≡ ps ++ a ∷ rs
+      → tests (meaning t) d ≡ ps ++ b ∷ us
       → a .1 ≡ b .1 → (sound t ≡ true → (a .0 ≡ true) × (b .0 ≡ true)) → unless (refusalAt t c) t bs o ≡ unless (refusalAt t d) t bs p
   unfolding refusalAt unless
   alike c d ps a b rs us e f k h = go (roomy t) (sound t) h
@@ -74,7 +76,8 @@ module _ (t : Tables) (bs : List (List ℕ)) (o p : Outcome) where
 
 module _ (t : Tables) (good : sound t ≡ true) where
   value-past : (v : ℕ) → 2048 ≤ v → leb (meaning t .values) v ≡ true
-  value-past v l = le-leb (meaning t .values) v (omega (arith, l, values-means t, clock-limits (t .clock) (parts t good .clock-fits) .few-values))
+  value-past v l = le-leb (meaning t .values) v
+      (omega (arith, l, values-means t, clock-limits (t .clock) (parts t good .clock-fits) .few-values))
 
   rows-low : (n : ℕ) → rowsOf (session (meaning t) n) ≤ 2048
   rows-low n =
@@ -107,7 +110,8 @@ module _ (t : Tables) (n : ℕ) where
       (λ g. (value-past t g (narrowed v) (h .0), value-past t g v (h .1)))
 
   row-alike : (o p : Outcome) (c d : Call) (ps : List Test) (r : ℕ) (rs us : List Test)
-      → tests (meaning t) c ≡ ps ++ noRow x (narrowed r) ∷ rs → tests (meaning t) d ≡ ps ++ noRow x r ∷ us → (2048 ≤ narrowed r) × (2048 ≤ r)
+      → tests (meaning t) c ≡ ps ++ noRow x (narrowed r) ∷ rs → tests (meaning t) d ≡ ps ++ noRow x r ∷ us → (2048 ≤ narrowed r)
+      × (2048 ≤ r)
       → unless (refusalAt t c) t [] o ≡ unless (refusalAt t d) t [] p
   row-alike o p c d ps r rs us e f h =
       alike t [] o p c d ps (noRow x (narrowed r)) (noRow x r) rs us e f refl
@@ -129,7 +133,8 @@ module _ (t : Tables) (n : ℕ) where
   unfolding queryOf tests
   query-wide scratch v threshold w e =
       by-narrowed (λ (k : ℕ). queryOf t scratch n k threshold) v (w .0) e
-      (value-alike t n (scratch ∷ []) _ _ (query n (narrowed v) threshold (length scratch)) (query n v threshold (length scratch)) v _ _ refl refl)
+      (value-alike t n (scratch ∷ []) _ _ (query n (narrowed v) threshold (length scratch))
+      (query n v threshold (length scratch)) v _ _ refl refl)
 
   pub read-wide : (r : ℕ) (k : Row) → k .0 ≡ narrowed r → readOf t n (k .0) ≡ readOf t n r
   unfolding readOf tests

@@ -63,7 +63,8 @@ module _ (t : Tables) (n : ℕ) (x : Session) (o : OpenIn t n x) where
   pub open-facts : OpenFacts (valuesIn (t .clock)) (firstIn (t .clock)) (stampIn (t .clock)) (t .log) x
   open-facts =
       subst (OpenFacts (valuesIn (t .clock)) (firstIn (t .clock)) (stampIn (t .clock)) (t .log)) there
-      (open-at (t .clock) (t .log) (t .sessions) (parts t (o .good) .sessions-fit) n (o .place-low) (ap (λ (y : Session). y .live) there ∙ o .live-one))
+      (open-at (t .clock) (t .log) (t .sessions) (parts t (o .good) .sessions-fit) n (o .place-low)
+      (ap (λ (y : Session). y .live) there ∙ o .live-one))
 
 -- ---- a row in its list: its target and its place
 

@@ -31,7 +31,8 @@ use Rattle.outcomes.specs.declared.enter.Test.the-variants as asks
 use Rattle.outcomes.specs.Said.{said, numbers}
 use Rattle.outcomes.specs.Outcome.{Outcome, outcome, refusalAt, unless}
 use Rattle.outcomes.specs.Calls.{reseated}
-use Rattle.outcomes.specs.Seats.{opens, opensNone, relists, relistsNone, frees, freesNone, opening, relisting, freeing, beside, Serves}
+use Rattle.outcomes.specs.Seats.{opens, opensNone, relists, relistsNone, frees, freesNone, opening, relisting, freeing, beside}
+use Rattle.outcomes.specs.Seats.{Serves}
 use Rattle.outcomes.specs.Enter.{whyOf, placedBy, openedBy, valuedBy}
 use Rattle.outcomes.proofs.Entered.{placed-refuses, opened-refuses, valued-refuses}
 
@@ -66,7 +67,8 @@ module _ (t : Tables) (bs : List (List ℕ)) (n : ℕ) where
   abbrev left : List Session → Answer → Outcome
   left ts a = outcome (beside t ts) bs (said a)
 
-  pub idle-left : (settled : List Session → List Session) (a b : Answer) → Idle settled a b → left (settled (t .sessions)) a ≡ outcome t bs (said b)
+  pub idle-left : (settled : List Session → List Session) (a b : Answer) → Idle settled a b
+      → left (settled (t .sessions)) a ≡ outcome t bs (said b)
   idle-left settled a b i =
       ap (λ (ts : List Session). left ts a) (i .stays (t .sessions)) ∙ ap (λ (c : Answer). left (t .sessions) c) (i .says)
 
@@ -90,7 +92,8 @@ module _ (t : Tables) (bs : List (List ℕ)) (n : ℕ) where
 
 -- ---- a refusal, and no refusal
 
-pub refused-outcome : (t : Tables) (bs : List (List ℕ)) (c : Call) (o : Outcome) (why : Refusal) (settled : List Session → List Session) (a : Answer)
+pub refused-outcome : (t : Tables) (bs : List (List ℕ)) (c : Call) (o : Outcome) (why : Refusal) (settled : List Session → List Session)
+    (a : Answer)
     → refusalAt t c ≡ some (numberOf why) → Idle settled a (No why)
     → outcome (beside t (settled (t .sessions))) bs (said a) ≡ unless (refusalAt t c) t bs o
 unfolding unless

@@ -24,7 +24,8 @@ stores-append t (s ∷ a) b = stores-append (store t s) a b
 
 -- the changes of a record
 pub change-stores : (t : Tables) (p : ℕ) (cs : List Change)
-    → stores t (changeStores p cs) ≡ tables (t .clock) (t .slots) (t .words) (t .heads) (t .log) (putChanges (t .changes) p cs) (t .sessions)
+    → stores t (changeStores p cs) ≡ tables (t .clock) (t .slots) (t .words) (t .heads) (t .log) (putChanges (t .changes) p cs)
+    (t .sessions)
 unfolding putChanges putChange
 change-stores t p [] = refl
 change-stores t p (c ∷ cs) = change-stores (store (store t (changeCell p (c .row))) (changeCell (2048 + p) (c .flips))) (p + 1) cs
@@ -35,21 +36,25 @@ pub word-stores : (t : Tables) (p : ℕ) (ws : List ℕ)
 word-stores t p [] = refl
 word-stores t p (w ∷ ws) =
     word-stores (store t (wordCell p w)) (p + 1) ws
-    ∙ ap (λ (q : ℕ). tables (t .clock) (t .slots) (sets (set (t .words) p w) q ws) (t .heads) (t .log) (t .changes) (t .sessions)) (add-one p)
+    ∙ ap (λ (q : ℕ). tables (t .clock) (t .slots) (sets (set (t .words) p w) q ws) (t .heads) (t .log) (t .changes) (t .sessions))
+    (add-one p)
 
 -- a slot's words, the slot, and the head of its value
 pub version-stores : (t : Tables) (p : ℕ) (ws : List ℕ) (i v stamp link : ℕ)
     → stores t (wordStores p ws ++ slotCell i v ∷ slotCell (96 + i) stamp ∷ slotCell (192 + i) link ∷ headCell v i ∷ [])
-    ≡ tables (t .clock) (putSlot (t .slots) i v stamp link) (sets (t .words) p ws) (putHead (t .heads) v i) (t .log) (t .changes) (t .sessions)
+    ≡ tables (t .clock) (putSlot (t .slots) i v stamp link) (sets (t .words) p ws) (putHead (t .heads) v i) (t .log) (t .changes)
+    (t .sessions)
 unfolding putSlot putHead
 version-stores t p ws i v stamp link =
     stores-append t (wordStores p ws) (slotCell i v ∷ slotCell (96 + i) stamp ∷ slotCell (192 + i) link ∷ headCell v i ∷ [])
-    ∙ ap (λ (u : Tables). stores u (slotCell i v ∷ slotCell (96 + i) stamp ∷ slotCell (192 + i) link ∷ headCell v i ∷ [])) (word-stores t p ws)
+    ∙ ap (λ (u : Tables). stores u (slotCell i v ∷ slotCell (96 + i) stamp ∷ slotCell (192 + i) link ∷ headCell v i ∷ []))
+    (word-stores t p ws)
 
 -- the changes of a record and the record, where other stores go before and after
 pub log-stores : (t u : Tables) (before rest : List Store) → stores t before ≡ u → (p : ℕ) (cs : List Change) (k kind rows end : ℕ)
     → stores t (before ++ changeStores p cs ++ recordStores k kind rows end ++ rest)
-    ≡ stores (tables (u .clock) (u .slots) (u .words) (u .heads) (putRecord (u .log) k kind rows end) (putChanges (u .changes) p cs) (u .sessions)) rest
+    ≡ stores (tables (u .clock) (u .slots) (u .words) (u .heads) (putRecord (u .log) k kind rows end) (putChanges (u .changes) p cs)
+    (u .sessions)) rest
 unfolding putRecord
 log-stores t u before rest e p cs k kind rows end =
     stores-append t (before ++ changeStores p cs ++ recordStores k kind rows end) rest
@@ -64,7 +69,8 @@ pub commit-stores : (t : Tables) (n : ℕ)
     ≡ tables (set (set (set (t .clock) 2 (stampIn (t .clock) + 1)) 3 (commitRows t n)) 5 (changesIn (t .clock) + own t n .count))
     (t .slots) (t .words) (t .heads)
     (putRecord (t .log) (stampIn (t .clock)) 1 (commitRows t n) (changesIn (t .clock) + own t n .count))
-    (putChanges (t .changes) (changesIn (t .clock)) (commitChanges (meaning t) (own t n .start .0) (entries (own t n)))) (set (t .sessions) n freed)
+    (putChanges (t .changes) (changesIn (t .clock)) (commitChanges (meaning t) (own t n .start .0) (entries (own t n))))
+    (set (t .sessions) n freed)
 commit-stores t n =
     let end = changesIn (t .clock) + own t n .count in
     log-stores t t [] (clockCell 2 (stampIn (t .clock) + 1) ∷ clockCell 3 (commitRows t n) ∷ clockCell 5 end ∷ seat n freed ∷ []) refl
@@ -78,7 +84,8 @@ length-changes l p [] = refl
 length-changes l p (c ∷ cs) = length-changes (putChange l p (c .row) (c .flips)) (p + 1) cs ∙ length-change l p (c .row) (c .flips)
 
 -- the changes before stay
-pub changes-before : (l : List ℕ) (p : ℕ) (cs : List Change) → p + length cs ≤ 2048 → (q : ℕ) → q < p → changeAt (putChanges l p cs) q ≡ changeAt l q
+pub changes-before : (l : List ℕ) (p : ℕ) (cs : List Change) → p + length cs ≤ 2048 → (q : ℕ) → q < p
+    → changeAt (putChanges l p cs) q ≡ changeAt l q
 unfolding putChanges
 changes-before l p [] h q m = refl
 changes-before l p (c ∷ cs) h q m =
@@ -86,7 +93,8 @@ changes-before l p (c ∷ cs) h q m =
     ∙ kept-change l p (c .row) (c .flips) (omega arith) q (omega arith) (λ e. omega arith)
 
 -- some changes after others, and one after others
-pub changes-append : (l : List ℕ) (p : ℕ) (xs ys : List Change) → putChanges l p (xs ++ ys) ≡ putChanges (putChanges l p xs) (p + length xs) ys
+pub changes-append : (l : List ℕ) (p : ℕ) (xs ys : List Change)
+    → putChanges l p (xs ++ ys) ≡ putChanges (putChanges l p xs) (p + length xs) ys
 unfolding putChanges
 changes-append l p [] ys = let e : p ≡ p + 0 = omega arith in ap (λ (q : ℕ). putChanges l q ys) e
 changes-append l p (x ∷ xs) ys =

@@ -37,7 +37,8 @@ use Rattle.rules.proofs.PlainLaws.{touched, touched-snoc, untouched-cel
 more : List Event → Event → List Event
 more h e = h ++ (e ∷ [])
 
-each : (h : List Event) (e : Event) (P : ℕ → Type 0) → ((k : ℕ) → k ≤ length h → P k) → P (suc (length h)) → (k : ℕ) → k ≤ length (more h e) → P k
+each : (h : List Event) (e : Event) (P : ℕ → Type 0) → ((k : ℕ) → k ≤ length h → P k) → P (suc (length h)) → (k : ℕ) → k ≤ length (more h e)
+    → P k
 unfolding more
 each h e P old new = up-to-next P old new (length-snoc h e)
 
@@ -88,10 +89,12 @@ module _ (C : ℕ) (col : Column) (rows : ℕ) (log : Log) (h : List Event) (c :
         → names (changesOf (above (grown log x) k)) r ≡ touched (drop k (more h e)) r
     unfolding more
     grown-seen r =
-        each h e (λ k. r < length (columnAfter col (more h e) k) → names (changesOf (above (grown log x) k)) r ≡ touched (drop k (more h e)) r) old
+        each h e (λ k. r < length (columnAfter col (more h e) k)
+        → names (changesOf (above (grown log x) k)) r ≡ touched (drop k (more h e)) r) old
         (λ q. rw (← (c .pace), above-new log x, c .pace, drop-snoc h e))
       where
-        old : (k : ℕ) → k ≤ length h → r < length (columnAfter col (more h e) k) → names (changesOf (above (grown log x) k)) r ≡ touched (drop k (more h e)) r
+        old : (k : ℕ) → k ≤ length h → r < length (columnAfter col (more h e) k)
+            → names (changesOf (above (grown log x) k)) r ≡ touched (drop k (more h e)) r
         old k l q =
             let m : r < length (columnAfter col h k) = rw (column-old col h e k l) at q in
             let o : r < rows = omega (arith, column-grows col h k, c .rows-now) in
@@ -138,7 +141,8 @@ module _ (log : Log) (ch : Chain) (v : ℕ) (col : Column) (h : List Event) (a :
   -- ---- what the agreement gives
 
   -- the newest version, with the flip sets now, is the column now
-  pub right-now : stampOf log ≡ length h → (r : ℕ) → xorb (newest ch .vector r) (bit (flipSet log (stampOf log) r) v) ≡ holds (cell (replay col h) r) v
+  pub right-now : stampOf log ≡ length h → (r : ℕ)
+      → xorb (newest ch .vector r) (bit (flipSet log (stampOf log) r) v) ≡ holds (cell (replay col h) r) v
   right-now p r = rw (p, ← (version-newest ch (length h) (a .head-old)), ← (column-now col h)) (a .right (length h) r (omega arith))
 
   -- a row is flipped exactly if its flip set at s has v
@@ -165,7 +169,12 @@ module _ (log : Log) (ch : Chain) (v : ℕ) (col : Column) (h : List Event) (a :
   moves-none s r l o =
       let q : lastTidy v (take s h) ≤ s = rw (← (a .placed s l)) (version-before ch s) in
       let p : length (columnAfter col h (lastTidy v (take s h))) ≤ r = omega (arith, columns-grow col h (lastTidy v (take s h)) s q) in
-      rw (moves-at s r l, List·getD-eq-default (columnAfter col h s) none o, List·getD-eq-default (columnAfter col h (lastTidy v (take s h))) none p)
+      rw (
+        moves-at s r l,
+        List·getD-eq-default (columnAfter col h s) none o,
+        List·getD-eq-default
+            (columnAfter col h (lastTidy v (take s h))) none p,
+      )
 
   module _ (s : ℕ) (l : s ≤ length h) (fit : length (columnAfter col h s) ≤ maxRows) where
     -- the rows that a query lists
@@ -220,7 +229,8 @@ module _ (log : Log) (ch : Chain) (v : ℕ) (col : Column) (h : List Event) (a :
           → xorb (versionAt ch′ k .vector r) (bit (flipSet (grown log x) k r) v) ≡ holds (cell (columnAfter col (more h e) k) r) v
       unfolding more
       next-right r =
-          each h e (λ k. xorb (versionAt ch′ k .vector r) (bit (flipSet (grown log x) k r) v) ≡ holds (cell (columnAfter col (more h e) k) r) v)
+          each h e (λ k. xorb (versionAt ch′ k .vector r) (bit (flipSet (grown log x) k r) v)
+          ≡ holds (cell (columnAfter col (more h e) k) r) v)
           (λ k l. rw (older k l, old-set k r l, column-old col h e k l) (a .right k r l))
           (rw (now, column-new col h e, ← p) (made r))
 
@@ -237,7 +247,8 @@ module _ (log : Log) (ch : Chain) (v : ℕ) (col : Column) (h : List Event) (a :
     -- the value keeps its versions: its flips turn as the column does
     pub agrees-kept : isTidyOf v e ≡ false
         → ((r : ℕ) → bit (flipSet (grown log x) (suc (stampOf log)) r) v
-        ≡ xorb (bit (flipSet log (stampOf log) r) v) (xorb (holds (cell (replay col h) r) v) (holds (cell (replay (replay col h) (e ∷ [])) r) v)))
+        ≡ xorb (bit (flipSet log (stampOf log) r) v)
+        (xorb (holds (cell (replay col h) r) v) (holds (cell (replay (replay col h) (e ∷ [])) r) v)))
         → Agrees (grown log x) ch v col (h ++ (e ∷ []))
     unfolding more
     agrees-kept t turns =
@@ -269,7 +280,8 @@ pub record Core (C : ℕ) (col : Column) (rows : ℕ) (log : Log) (chains : List
 smallest-held : (C : ℕ) (o : Option ℕ) → ((a : ℕ) → o ≡ some a → a < C) → smallestBelow (λ v. holds o v) C ≡ o
 smallest-held C none w = smallest-none (λ v. holds none v) C .1 (λ k l. refl)
 smallest-held C (some a) w =
-    smallest-some (λ v. holds (some a) v) C a .1 (record { below = w a refl; has = eq-eqb a a refl; least = λ k l. ne-eqb a k (omega arith) })
+    smallest-some (λ v. holds (some a) v) C a .1
+    (record { below = w a refl; has = eq-eqb a a refl; least = λ k l. ne-eqb a k (omega arith) })
 
 pub read-is : (C : ℕ) (col : Column) (rows : ℕ) (log : Log) (chains : List Chain) (h : List Event) → Core C col rows log chains h
     → (s : ℕ) → s ≤ length h → (r : ℕ) → readAt C log chains s r ≡ cell (columnAfter col h s) r

@@ -45,7 +45,8 @@ no-target es r e = go (target es r) (sym (lists-target es r) ∙ e)
     go (some t) q = absurd (true≢false q)
 
 -- a listed row has the set for its target
-rows-naming : (g : ℕ → Option ℕ → ℕ) (es : List Entry) (r : ℕ) → EachOnce es → lastNaming (rowChanges g es) r ≡ Option·map (g r) (target es r)
+rows-naming : (g : ℕ → Option ℕ → ℕ) (es : List Entry) (r : ℕ) → EachOnce es
+    → lastNaming (rowChanges g es) r ≡ Option·map (g r) (target es r)
 rows-naming g [] r o = refl
 rows-naming g (add v ∷ es) r o = rows-naming g es r o
 rows-naming g (alter q t ∷ es) r o = rw (rows-naming g es r (o .1)) (go (eq-cases q r))

@@ -42,8 +42,11 @@ holds-means none v e = absurd (false≢true e)
 holds-means (some a) v e = ap some (eqb-true a v e)
 
 holding-exactly : (col : Column) (v r : ℕ) → List·Memᴰ r (holding col v) ↔ (cell col r ≡ some v)
-holding-exactly col v r =
-    (λ m. holds-means (cell col r) v (rows-mem has (length col) r m .1), λ e. mem-rows has (length col) r (low (lt-cases r (length col)) e) (rw e (eq-eqb v v refl)))
+holding-exactly col v r = (
+  λ m. holds-means (cell col r) v (rows-mem has (length col) r m .1),
+  λ e. mem-rows has (length col) r (low (lt-cases r (length col)) e)
+      (rw e (eq-eqb v v refl)),
+)
   where
     has : ℕ → Bool
     has q = holds (cell col q) v
@@ -71,7 +74,8 @@ module _ (st : State) (o : Observer) (inv : Inv st o) where
         rows-are = rows;
         exactly = λ r. rw rows (holding-exactly (columnAt o s) v r);
         ascending = rw rows (rows-ascend (λ r. holds (cell (columnAt o s) r) v) (length (columnAt o s)));
-        flips-are = flip-count (st .log) (chain (st .chains) v) v (o .column) (o .events) a s (q .old) fit ∙ ap length (moved-is st o inv s v (q .old) l);
+        flips-are = flip-count (st .log) (chain (st .chains) v) v (o .column) (o .events) a s (q .old) fit
+            ∙ ap length (moved-is st o inv s v (q .old) l);
         due-is = refl;
       }
     where
@@ -175,7 +179,8 @@ other-number n d e = d cc
 
 -- the tests from 12 on
 twelve : (st : State) (b₁₂ b₁₅ b₁₆ b₁₇ : Bool) (x : State) (ns : List ℕ)
-    → (unless st (cond b₁₂ (some 12) (cond b₁₅ (some 15) (cond b₁₆ (some 16) (cond b₁₇ (some 17) none)))) (x, ok ns) .1 ≡ refused 12) ↔ (b₁₂ ≡ true)
+    → (unless st (cond b₁₂ (some 12) (cond b₁₅ (some 15) (cond b₁₆ (some 16) (cond b₁₇ (some 17) none)))) (x, ok ns) .1 ≡ refused 12)
+    ↔ (b₁₂ ≡ true)
 twelve st true b₁₅ b₁₆ b₁₇ x ns = (λ e. refl, λ e. refl)
 twelve st false true b₁₆ b₁₇ x ns = (λ e. absurd (other-number 15 (omega arith) e), λ e. absurd (false≢true e))
 twelve st false false true b₁₇ x ns = (λ e. absurd (other-number 16 (omega arith) e), λ e. absurd (false≢true e))
@@ -205,7 +210,8 @@ module _ (st : State) (o : Observer) (inv : Inv st o) where
   commit-numbers : (i : ℕ) → AllFail (tests st (commit i))
       → Numbers (suc (length (o .events)) ∷ length (columnNow (accepts o (commit i))) ∷ []) (effect st (commit i) .1)
   unfolding effect watches
-  commit-numbers i p = ap₂ (λ (a b : ℕ). a ∷ b ∷ []) (ap suc (inv .core .logged .pace)) (accepted st o inv (commit i) p .core .logged .rows-now)
+  commit-numbers i p = ap₂ (λ (a b : ℕ). a ∷ b ∷ []) (ap suc (inv .core .logged .pace))
+      (accepted st o inv (commit i) p .core .logged .rows-now)
 
   -- an open session with something listed is refused by 12 exactly if the rules see a conflict
   commit-answer : (i : ℕ) → leb maxSessions i ≡ false → isFree (session st i) ≡ false → isEmpty (listOf (session st i)) ≡ false
@@ -214,7 +220,8 @@ module _ (st : State) (o : Observer) (inv : Inv st o) where
   commit-answer i a b c =
       let x = session st i in
       rw (a, b, c)
-      (twelve st (conflicts (st .log) (startOf x) (listOf x)) (ltb maxRows (st .rows + length (inserts (listOf x)))) (leb maxRecords (stampOf (st .log)))
+      (twelve st (conflicts (st .log) (startOf x) (listOf x)) (ltb maxRows (st .rows + length (inserts (listOf x))))
+      (leb maxRecords (stampOf (st .log)))
       (ltb maxChanges (length (allChanges (st .log)) + length (listOf x))) _ _)
 
   -- and that is what the observer sees
@@ -240,11 +247,14 @@ module _ (st : State) (o : Observer) (inv : Inv st o) where
       judged (read i r) (Right o (read i r)) (λ n. tt)
       (λ p. read-reads st o inv i r (session st i) (visitor o i) (inv .sat i) refl (p .1 .0) (leb-false _ _ (p .1 .1 .0)))
   right (update i r v) =
-      judged (update i r v) (Right o (update i r v)) (λ n. tt) (λ p. relisted-count i _ (accepts o (update i r v)) (p .0) (accepted st o inv (update i r v) p))
+      judged (update i r v) (Right o (update i r v)) (λ n. tt)
+      (λ p. relisted-count i _ (accepts o (update i r v)) (p .0) (accepted st o inv (update i r v) p))
   right (delete i r) =
-      judged (delete i r) (Right o (delete i r)) (λ n. tt) (λ p. relisted-count i _ (accepts o (delete i r)) (p .0) (accepted st o inv (delete i r) p))
+      judged (delete i r) (Right o (delete i r)) (λ n. tt)
+      (λ p. relisted-count i _ (accepts o (delete i r)) (p .0) (accepted st o inv (delete i r) p))
   right (insert i v) =
-      judged (insert i v) (Right o (insert i v)) (λ n. tt) (λ p. relisted-count i _ (accepts o (insert i v)) (p .0) (accepted st o inv (insert i v) p))
+      judged (insert i v) (Right o (insert i v)) (λ n. tt)
+      (λ p. relisted-count i _ (accepts o (insert i v)) (p .0) (accepted st o inv (insert i v) p))
   right (commit i) = record { numbers = judged (commit i) (Numbers _) (λ n. tt) (commit-numbers i); conflict = commit-conflict i }
   right (tidy i v) =
       judged (tidy i v) (Right o (tidy i v)) (λ n. tt)

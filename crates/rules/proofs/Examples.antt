@@ -43,7 +43,9 @@ module _ (l : List (List (ℕ × ℕ))) where
   records-emptied e = rw (sets .3, sets .1, sets .0, sets .4) e
 
 pub marked : Marked
-unfolding firstColumn printed printed₆ printed₈ printed₉ created effect step run badColumn tests maxValues maxRows maxSlots maxRecords maxChanges maxSessions maxEntries vectorWords stampOf upTo above between grown allChanges flipSet versionAt flipped queried readAt toggled commitChanges moved tidyChanges bit flipBit clearBit bitAt tab rowsBelow countBelow smallestBelow
+unfolding firstColumn printed printed₆ printed₈ printed₉ created effect step run badColumn tests maxValues maxRows maxSlots maxRecords
+    maxChanges maxSessions maxEntries vectorWords stampOf upTo above between grown allChanges flipSet versionAt flipped queried readAt
+    toggled commitChanges moved tidyChanges bit flipBit clearBit bitAt tab rowsBelow countBelow smallestBelow
 marked =
     record {
       printed-answers = λ st. refl;
@@ -62,5 +64,7 @@ marked =
     }
 
 pub caught : Caught
-unfolding firstColumn start emptying returning replacing overtaking created effect step run badColumn tests maxValues maxRows maxSlots maxRecords maxChanges maxSessions maxEntries vectorWords stampOf upTo above between grown allChanges flipSet versionAt flipped queried readAt toggled commitChanges moved tidyChanges bit flipBit clearBit tab rowsBelow countBelow smallestBelow
+unfolding firstColumn start emptying returning replacing overtaking created effect step run badColumn tests maxValues maxRows maxSlots
+    maxRecords maxChanges maxSessions maxEntries vectorWords stampOf upTo above between grown allChanges flipSet versionAt flipped queried
+    readAt toggled commitChanges moved tidyChanges bit flipBit clearBit tab rowsBelow countBelow smallestBelow
 caught = record { emptied = refl; emptied-records = records-emptied _ refl; returned = refl; replaced = refl; overtaken = refl }

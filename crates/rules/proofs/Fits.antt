@@ -63,7 +63,11 @@ RecordsFit C n (x ∷ xs) = ChangesFit C n (x .changes) × RecordsFit C n xs
 
 all-fit : (C n m : ℕ) (log : Log) → LogFits C n log m → RecordsFit C m log
 all-fit C n m [] h = tt
-all-fit C n m (x ∷ xs) h = (changes-more C (x .rows) m (x .changes) (count-first C (x .rows) m xs (h .2)) (h .1), all-fit C (x .rows) m xs (h .2))
+all-fit C n m (x ∷ xs) h = (
+  changes-more C (x .rows) m (x .changes) (count-first C (x .rows) m xs (h .2)) (h .1),
+  all-fit C (x .rows) m xs
+      (h .2),
+)
 
 some-fit : (C n : ℕ) (xs : List Record) → RecordsFit C n xs → ChangesFit C n (changesOf xs)
 some-fit C n [] h = tt
@@ -147,13 +151,15 @@ toggled-low C m (some a) h w = flip-lt C m a h w
 
 -- ---- the changes of a new record
 
-pub rows-fit : (C n m : ℕ) (g : ℕ → Option ℕ → ℕ) (es : List Entry) → ((r : ℕ) (t : Option ℕ) → Within C t → g r t < 2 ^ C) → n ≤ m → EntriesFit C n es
+pub rows-fit : (C n m : ℕ) (g : ℕ → Option ℕ → ℕ) (es : List Entry) → ((r : ℕ) (t : Option ℕ) → Within C t → g r t < 2 ^ C) → n ≤ m
+    → EntriesFit C n es
     → ChangesFit C m (rowChanges g es)
 rows-fit C n m g [] h l f = tt
 rows-fit C n m g (alter r t ∷ es) h l f = (omega (arith, f .0), h r t (f .1), rows-fit C n m g es h l (f .2))
 rows-fit C n m g (add v ∷ es) h l f = rows-fit C n m g es h l (f .1)
 
-pub inserts-fit : (C k m : ℕ) (es : List Entry) (n : ℕ) → EntriesFit C k es → n + length (inserts es) ≤ m → ChangesFit C m (insertChanges n (inserts es))
+pub inserts-fit : (C k m : ℕ) (es : List Entry) (n : ℕ) → EntriesFit C k es → n + length (inserts es) ≤ m
+    → ChangesFit C m (insertChanges n (inserts es))
 inserts-fit C k m [] n f l = tt
 inserts-fit C k m (alter r t ∷ es) n f l = inserts-fit C k m es n (f .2) l
 inserts-fit C k m (add v ∷ es) n f l = (omega arith, flip-lt C 0 v (pow-pos C) (f .0), inserts-fit C k m es (suc n) (f .1) (omega arith))
@@ -165,7 +171,8 @@ length-made g n (alter r t ∷ es) = ap suc (length-made g n es)
 length-made g n (add v ∷ es) = rw length-append (omega (arith, simp length-append at (length-made g (suc n) es)))
 
 -- a change for each of some rows
-pub map-fit : (C m : ℕ) (g : ℕ → Change) (rs : List ℕ) → ((r : ℕ) → List·Memᴰ r rs → (g r .row < m) × (g r .flips < 2 ^ C)) → ChangesFit C m (map g rs)
+pub map-fit : (C m : ℕ) (g : ℕ → Change) (rs : List ℕ) → ((r : ℕ) → List·Memᴰ r rs → (g r .row < m) × (g r .flips < 2 ^ C))
+    → ChangesFit C m (map g rs)
 map-fit C m g [] h = tt
 map-fit C m g (r ∷ rs) h =
     let p = h r (List·Memᴰ·head refl) in
@@ -182,7 +189,8 @@ pub falls-cons : (b : ℕ) (x : Version) (ch : Chain) → x .stamp < b → Falls
 falls-cons b x [] l h = absurd h
 falls-cons b x (y ∷ ys) l h = (l, h)
 
-pub vectors-grown : (n b : ℕ) (log : Log) (z : Record) (ch : Chain) → b ≤ suc (stampOf log) → Falls b ch → VectorsFit n log ch → VectorsFit n (grown log z) ch
+pub vectors-grown : (n b : ℕ) (log : Log) (z : Record) (ch : Chain) → b ≤ suc (stampOf log) → Falls b ch → VectorsFit n log ch
+    → VectorsFit n (grown log z) ch
 vectors-grown n b log z [] l f h = absurd f
 vectors-grown n b log z (x ∷ []) l f h = (λ r q. h .0 r (rw (rowsAt-old n log z (x .stamp) (omega (arith, f .0))) at q), tt)
 vectors-grown n b log z (x ∷ y ∷ ys) l f h = (

@@ -54,10 +54,12 @@ module _ (K : Type 0) (meaning : K → State) (work : K → Call → K × Answer
     same-transcript [] k g u = refl
     same-transcript (c ∷ cs) k g u =
         ap₂ (λ (a : Answer) (t : List (Call × Answer)). (c, a) ∷ t) (f .same-answer k c g u)
-        (same-transcript cs (work k c .0) (next-good k c g u) (next-undamaged k c g u) ∙ ap (λ (s : State). transcript s cs) (f .same-state k c g u))
+        (same-transcript cs (work k c .0) (next-good k c g u) (next-undamaged k c g u)
+        ∙ ap (λ (s : State). transcript s cs) (f .same-state k c g u))
 
     -- THE LIFTING THEOREM
-    pub every-work : (C : ℕ) (col : Column) → badColumn C col ≡ false → (k : K) → Good k → meaning k ≡ created C col → (cs : List Call) → Works col k cs
+    pub every-work : (C : ℕ) (col : Column) → badColumn C col ≡ false → (k : K) → Good k → meaning k ≡ created C col → (cs : List Call)
+        → Works col k cs
     every-work C col good k g e cs =
         let u : Undamaged (meaning k) = rw e (created-undamaged C col good) in
         record {

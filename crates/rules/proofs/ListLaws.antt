@@ -33,7 +33,8 @@ cond-same : {A : Type 0} (b : Bool) (x y z : A) → cond b x z ≡ cond b x (con
 cond-same true x y z = refl
 cond-same false x y z = refl
 
-cond-swap : {A : Type 0} (q p r : ℕ) → (q ≡ p → ⊥) → (x y z : A) → cond (eqb q r) x (cond (eqb p r) y z) ≡ cond (eqb p r) y (cond (eqb q r) x z)
+cond-swap : {A : Type 0} (q p r : ℕ) → (q ≡ p → ⊥) → (x y z : A)
+    → cond (eqb q r) x (cond (eqb p r) y z) ≡ cond (eqb p r) y (cond (eqb q r) x z)
 cond-swap q p r d x y z =
     ⊎-elim (λ (e : q ≡ r). rw (eq-eqb q r e, ne-eqb p r (λ f. d (e ∙ sym f)))) (λ (n : q ≡ r → ⊥). rw (ne-eqb q r n)) (eq-cases q r)
 

@@ -45,7 +45,8 @@ pub allChanges-grown : (log : Log) (x : Record) → allChanges (grown log x) ≡
 unfolding allChanges grown
 allChanges-grown log x = changesOf-snoc log x
 
-pub above-old : (log : Log) (x : Record) (k : ℕ) → k ≤ stampOf log → changesOf (above (grown log x) k) ≡ changesOf (above log k) ++ x .changes
+pub above-old : (log : Log) (x : Record) (k : ℕ) → k ≤ stampOf log
+    → changesOf (above (grown log x) k) ≡ changesOf (above log k) ++ x .changes
 unfolding stampOf above grown
 above-old log x k h = rw (drop-append-le k log (x ∷ []) h) (changesOf-snoc (drop k log) x)
 
@@ -72,7 +73,8 @@ flipSet-new log x r =
     (laid (lastNaming (x .changes) r) (lastNaming (changesOf log) r))
 
 -- the set now: that of the last change above s, or the one at s
-pub flipSet-since : (log : Log) (s r : ℕ) → flipSet log (stampOf log) r ≡ Option·getD (lastNaming (changesOf (above log s)) r) (flipSet log s r)
+pub flipSet-since : (log : Log) (s r : ℕ)
+    → flipSet log (stampOf log) r ≡ Option·getD (lastNaming (changesOf (above log s)) r) (flipSet log s r)
 unfolding flipSet stampOf upTo above
 flipSet-since log s r =
     rw take-length
@@ -92,7 +94,8 @@ flipped-is log ch s v r h e = go (lastNaming (changesOf (drop b (take s log))) r
     b : ℕ
     b = versionAt ch s .stamp
 
-    split : lastNaming (changesOf (take s log)) r ≡ orElse (lastNaming (changesOf (drop b (take s log))) r) (lastNaming (changesOf (take b log)) r)
+    split : lastNaming (changesOf (take s log)) r
+        ≡ orElse (lastNaming (changesOf (drop b (take s log))) r) (lastNaming (changesOf (take b log)) r)
     split =
         ap (λ (l : List Record). lastNaming (changesOf l) r) (sym (take-append-drop b (take s log)))
         ∙ rw (changesOf-append, lastNaming-append, take-take b s log h)

@@ -59,10 +59,12 @@ tests-rise st (abort i) = omega arith
 rise-low : (ts : List Test) (n : ℕ) → Rising n ts → (t : Test) → List·Memᴰ t ts → n < t .1
 rise-low [] n h t m = absurd (List·Memᴰ·not-nil m)
 rise-low (x ∷ ts) n h t m =
-    ⊎-elim (λ (e : t ≡ x). rw e (h .0)) (λ (k : List·Memᴰ t ts). omega (arith, h .0, rise-low ts (x .1) (h .1) t k)) (List·Memᴰ·cases-cons m)
+    ⊎-elim (λ (e : t ≡ x). rw e (h .0)) (λ (k : List·Memᴰ t ts). omega (arith, h .0, rise-low ts (x .1) (h .1) t k))
+    (List·Memᴰ·cases-cons m)
 
 -- in such a table a number is given whenever a test holds, and none that applies is smaller
-pub least : (ts : List Test) (m : ℕ) → Rising m ts → (t : Test) → List·Memᴰ t ts → t .0 ≡ true → (n : ℕ) × (firstOf ts ≡ some n) × (n ≤ t .1)
+pub least : (ts : List Test) (m : ℕ) → Rising m ts → (t : Test) → List·Memᴰ t ts → t .0 ≡ true → (n : ℕ) × (firstOf ts ≡ some n)
+    × (n ≤ t .1)
 least [] m h t k p = absurd (List·Memᴰ·not-nil k)
 least (x ∷ ts) m h t k p = go (x .0) refl (List·Memᴰ·cases-cons k) (λ l. least ts (x .1) (h .1) t l p)
   where
@@ -83,7 +85,8 @@ first-above (x ∷ ts) m h n e = go (x .0) e (first-above ts (x .1) (h .1) n)
     go false q ih = omega (arith, h .0, ih q)
 
 -- "The smallest number that applies is given.": no test that holds has a smaller one
-pub smallest-number : (st : State) (c : Call) (n : ℕ) → refusal st c ≡ some n → (t : Test) → List·Memᴰ t (tests st c) → t .0 ≡ true → n ≤ t .1
+pub smallest-number : (st : State) (c : Call) (n : ℕ) → refusal st c ≡ some n → (t : Test) → List·Memᴰ t (tests st c) → t .0 ≡ true
+    → n ≤ t .1
 smallest-number st c n e t k p =
     let l = least (tests st c) 2 (tests-rise st c) t k p in
     let z : l .0 ≡ n = cc in

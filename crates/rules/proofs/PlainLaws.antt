@@ -34,16 +34,19 @@ replay-append col [] h = refl
 replay-append col (committed ws ∷ g) h = replay-append (met col ws) g h
 replay-append col (tidied v rs ∷ g) h = replay-append col g h
 
-pub column-old : (col : Column) (h : List Event) (e : Event) (k : ℕ) → k ≤ length h → columnAfter col (h ++ (e ∷ [])) k ≡ columnAfter col h k
+pub column-old : (col : Column) (h : List Event) (e : Event) (k : ℕ) → k ≤ length h
+    → columnAfter col (h ++ (e ∷ [])) k ≡ columnAfter col h k
 column-old col h e k l = rw (take-append-le k h (e ∷ []) l)
 
-pub column-new : (col : Column) (h : List Event) (e : Event) → columnAfter col (h ++ (e ∷ [])) (suc (length h)) ≡ replay (replay col h) (e ∷ [])
+pub column-new : (col : Column) (h : List Event) (e : Event)
+    → columnAfter col (h ++ (e ∷ [])) (suc (length h)) ≡ replay (replay col h) (e ∷ [])
 column-new col h e = rw (take-snoc h e) (replay-append col h (e ∷ []))
 
 pub column-now : (col : Column) (h : List Event) → columnAfter col h (length h) ≡ replay col h
 column-now col h = rw take-length
 
-lastFrom-snoc : (v n f : ℕ) (h : List Event) (e : Event) → lastFrom v n f (h ++ (e ∷ [])) ≡ cond (isTidyOf v e) (suc (n + length h)) (lastFrom v n f h)
+lastFrom-snoc : (v n f : ℕ) (h : List Event) (e : Event)
+    → lastFrom v n f (h ++ (e ∷ [])) ≡ cond (isTidyOf v e) (suc (n + length h)) (lastFrom v n f h)
 lastFrom-snoc v n f [] e = let q : n + 0 ≡ n = omega arith in rw q
 lastFrom-snoc v n f (x ∷ h) e =
     let q : suc n + length h ≡ n + suc (length h) = omega arith in
@@ -93,7 +96,11 @@ touched-snoc (x ∷ h) e r = rw (touched-snoc h e r) (sym (or-assoc (touches x r
 -- so there is an event that touches it
 pub touched-means : (h : List Event) (r : ℕ) → (touched h r ≡ true) ↔ ((e : Event) × List·Memᴰ e h × (touches e r ≡ true))
 touched-means [] r = (λ e. absurd (false≢true e), λ p. absurd (List·Memᴰ·not-nil (p .1)))
-touched-means (x ∷ h) r = (to (bool-cases (touches x r)) (touched-means h r .0), λ p. from p (List·Memᴰ·cases-cons (p .1)) (touched-means h r .1))
+touched-means (x ∷ h) r = (
+  to (bool-cases (touches x r)) (touched-means h r .0),
+  λ p. from p (List·Memᴰ·cases-cons (p .1))
+      (touched-means h r .1),
+)
   where
     to : (touches x r ≡ true) ⊎ (touches x r ≡ false) → (touched h r ≡ true → (e : Event) × List·Memᴰ e h × (touches e r ≡ true))
         → (touches x r || touched h r) ≡ true → (e : Event) × List·Memᴰ e (x ∷ h) × (touches e r ≡ true)
@@ -161,7 +168,12 @@ cell-last : (col : Column) (ws : List Wish) (r : ℕ) → r < length col → cel
 cell-last col [] r l = refl
 cell-last col (grow v ∷ ws) r l = cell-last col ws r l
 cell-last col (hold q t ∷ ws) r l =
-    rw (cell-last (set col q t) ws r (rw (length-set col q t) l), standing-or (lastWish ws r) (cond (eqb q r) (some t) none) (cell col r), go (eq-cases q r))
+    rw (
+      cell-last (set col q t) ws r (rw (length-set col q t) l),
+      standing-or (lastWish ws r) (cond (eqb q r) (some t) none)
+          (cell col r),
+      go (eq-cases q r),
+    )
   where
     go : (q ≡ r) ⊎ (q ≡ r → ⊥) → cell (set col q t) r ≡ standing (cond (eqb q r) (some t) none) (cell col r)
     go (inl e) = rw (e, eq-eqb r r refl) (getD-set-same col r t none l)
@@ -174,7 +186,8 @@ last-hold [] p u r = refl
 last-hold (hold q t ∷ ws) p u r = rw (last-hold ws p u r) (go (eqb p r))
   where
     go : (b : Bool)
-        → orElse (cond b (some u) (lastWish ws r)) (cond (eqb q r) (some t) none) ≡ cond b (some u) (orElse (lastWish ws r) (cond (eqb q r) (some t) none))
+        → orElse (cond b (some u) (lastWish ws r)) (cond (eqb q r) (some t) none)
+        ≡ cond b (some u) (orElse (lastWish ws r) (cond (eqb q r) (some t) none))
     go true = refl
     go false = refl
 last-hold (grow v ∷ ws) p u r = last-hold ws p u r
@@ -195,7 +208,8 @@ wished-append (hold q t ∷ ws) us r = rw (wished-append ws us r) (sym (or-assoc
 wished-append (grow v ∷ ws) us r = wished-append ws us r
 
 -- a wish for a row that is wished for already adds none
-wishes-hold : (ws : List Wish) (p : ℕ) (u : Option ℕ) → countWished (ws ++ (hold p u ∷ [])) ≡ cond (isWished ws p) (countWished ws) (suc (countWished ws))
+wishes-hold : (ws : List Wish) (p : ℕ) (u : Option ℕ)
+    → countWished (ws ++ (hold p u ∷ [])) ≡ cond (isWished ws p) (countWished ws) (suc (countWished ws))
 wishes-hold [] p u = refl
 wishes-hold (grow v ∷ ws) p u = rw (wishes-hold ws p u) (go (isWished ws p))
   where

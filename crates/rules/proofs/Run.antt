@@ -52,7 +52,8 @@ pub record Inv (st : State) (o : Observer) : Type 0 where
 -- ---- sessions and visitors
 
 -- one more event leaves a session's start as it was
-sits-on : (C : ℕ) (col : Column) (h : List Event) (e : Event) (x : Session) (y : Visitor) → Sits C col h x y → Sits C col (h ++ (e ∷ [])) x y
+sits-on : (C : ℕ) (col : Column) (h : List Event) (e : Event) (x : Session) (y : Visitor) → Sits C col h x y
+    → Sits C col (h ++ (e ∷ [])) x y
 sits-on C col h e free away q = tt
 sits-on C col h e free (sitting k ws) q = absurd q
 sits-on C col h e (opened s n es) away q = absurd q
@@ -131,7 +132,16 @@ module _ (st : State) (o : Observer) (inv : Inv st o) where
   -- one event more, with its record and the versions then
   event-inv : (rows : ℕ) (log : Log) (chains : List Chain) (slots : ℕ) (e : Event)
       → Core (st .values) (o .column) rows log chains (o .events ++ (e ∷ []))
-      → Inv (record { values = st .values; first = st .first; rows = rows; log = log; chains = chains; slots = slots; sessions = st .sessions })
+      → Inv (record {
+        values = st .values;
+        first = st .first;
+        rows = rows;
+        log = log;
+        chains = chains;
+        slots = slots;
+        sessions = st
+            .sessions;
+      })
       (record { column = o .column; events = o .events ++ (e ∷ []); visitors = o .visitors })
   event-inv rows log chains slots e c = record {
     core = c;
@@ -141,7 +151,8 @@ module _ (st : State) (o : Observer) (inv : Inv st o) where
   }
 
 module _ (st : State) (o : Observer) (inv : Inv st o) where
-  commit-inv : (i : ℕ) (x : Session) (y : Visitor) → SitsNow st o inv x y → isFree x ≡ false → conflicts (st .log) (startOf x) (listOf x) ≡ false
+  commit-inv : (i : ℕ) (x : Session) (y : Visitor) → SitsNow st o inv x y → isFree x ≡ false
+      → conflicts (st .log) (startOf x) (listOf x) ≡ false
       → st .rows + length (inserts (listOf x)) ≤ maxRows → Inv (committing st i (startOf x) (listOf x)) (commitsNow o i y)
   unfolding commitChanges
   commit-inv i free y q b e m = absurd (true≢false b)
@@ -182,16 +193,19 @@ module _ (st : State) (o : Observer) (inv : Inv st o) where
   accepted (update i r v) p =
       let x = session st i in
       relist-inv st o inv i (hold r (some v)) x (visitor o i) _ (inv .sat i) (p .1 .0)
-      (put-kept (st .values) (rowsOf x) (listOf x) r (some v) (leb-false _ _ (p .1 .1 .1 .0)) (leb-false _ _ (p .1 .1 .0)) (p .1 .1 .1 .1 .1 .0))
+      (put-kept (st .values) (rowsOf x) (listOf x) r (some v) (leb-false _ _ (p .1 .1 .1 .0)) (leb-false _ _ (p .1 .1 .0))
+      (p .1 .1 .1 .1 .1 .0))
       (λ ws s. same-put (listOf x) ws s r (some v))
   accepted (delete i r) p =
       let x = session st i in
       relist-inv st o inv i (hold r none) x (visitor o i) _ (inv .sat i) (p .1 .0)
-      (put-kept (st .values) (rowsOf x) (listOf x) r none (leb-false _ _ (p .1 .1 .0)) tt (p .1 .1 .1 .1 .0)) (λ ws s. same-put (listOf x) ws s r none)
+      (put-kept (st .values) (rowsOf x) (listOf x) r none (leb-false _ _ (p .1 .1 .0)) tt (p .1 .1 .1 .1 .0))
+      (λ ws s. same-put (listOf x) ws s r none)
   accepted (insert i v) p =
       let x = session st i in
       relist-inv st o inv i (grow v) x (visitor o i) _ (inv .sat i) (p .1 .0)
-      (insert-kept (st .values) (rowsOf x) (listOf x) v (leb-false _ _ (p .1 .1 .0)) (p .1 .1 .1 .0)) (λ ws s. same-insert (listOf x) ws s v)
+      (insert-kept (st .values) (rowsOf x) (listOf x) v (leb-false _ _ (p .1 .1 .0)) (p .1 .1 .1 .0))
+      (λ ws s. same-insert (listOf x) ws s v)
   accepted (commit i) p =
       commit-inv i (session st i) (visitor o i) (inv .sat i) (p .1 .0) (p .1 .1 .1 .0) (ltb-false _ _ (p .1 .1 .1 .1 .0))
   accepted (tidy i v) p = tidy-inv v (session st i) (visitor o i) (inv .sat i) (p .1 .0) (leb-false _ _ (p .1 .1 .0)) (p .1 .1 .1 .1 .0)

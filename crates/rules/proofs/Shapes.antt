@@ -115,7 +115,8 @@ put-new [] r t e = refl
 put-new (alter q u ∷ es) r t e = let p = or-parts (eqb q r) (lists es r) e in rw (p .0, put-new es r t (p .1))
 put-new (add v ∷ es) r t e = rw (put-new es r t e)
 
-pub put-there : (es : List Entry) (i r : ℕ) (t u : Option ℕ) (d : Entry) → i < length es → getD es i d ≡ alter r u → lists (take i es) r ≡ false
+pub put-there : (es : List Entry) (i r : ℕ) (t u : Option ℕ) (d : Entry) → i < length es → getD es i d ≡ alter r u
+    → lists (take i es) r ≡ false
     → put es r t ≡ set es i (alter r t)
 put-there [] i r t u d l g e = absurd (omega arith)
 put-there (x ∷ es) zero r t u d l g e = rw (g, eq-eqb r r refl)

@@ -65,7 +65,8 @@ same-everywhere (suc n) d (suc i) = same-everywhere n d i
 
 -- two lists changed at one place
 pub pair-set : {A B : Type 0} (R : A → B → Type 0) (d : A) (d′ : B) (l : List A) (m : List B) → length l ≡ length m
-    → ((j : ℕ) → R (getD l j d) (getD m j d′)) → (i : ℕ) (x : A) (y : B) → R x y → (j : ℕ) → R (getD (set l i x) j d) (getD (set m i y) j d′)
+    → ((j : ℕ) → R (getD l j d) (getD m j d′)) → (i : ℕ) (x : A) (y : B) → R x y → (j : ℕ)
+    → R (getD (set l i x) j d) (getD (set m i y) j d′)
 pair-set R d d′ [] [] e h i x y r j = h j
 pair-set R d d′ [] (b ∷ m) e h i x y r j = absurd (omega arith)
 pair-set R d d′ (a ∷ l) [] e h i x y r j = absurd (omega arith)

@@ -14,9 +14,11 @@ use Rattle.bits.proofs.Cases.{lt-cases}
 use Rattle.bits.specs.All.{allBelow}
 use Rattle.bits.proofs.AllLaws.{all-at, all-of}
 use Rattle.rules.specs.Limits.{maxValues, maxRows, maxSlots, maxRecords, maxChanges}
-use Rattle.tables.specs.Cells.{Tables, valuesIn, firstIn, stampIn, rowsIn, slotsIn, changesIn, recordStamp, recordKind, recordRows, recordEnd, rowsInLog, endAt, changeRow, changeSet}
+use Rattle.tables.specs.Cells.{Tables, valuesIn, firstIn, stampIn, rowsIn, slotsIn, changesIn, recordStamp, recordKind}
+use Rattle.tables.specs.Cells.{recordRows, recordEnd, rowsInLog, endAt, changeRow, changeSet}
 use Rattle.tables.specs.Room.{roomFor, roomy, Roomy}
-use Rattle.tables.specs.Damage.{clockFits, recordFits, recordsFit, allIn, changeFits, recordChangesFit, changesFit, slotsFit, headsFit, vectorsFit, sessionsFit, sound}
+use Rattle.tables.specs.Damage.{clockFits, recordFits, recordsFit, allIn, changeFits, recordChangesFit, changesFit, slotsFit}
+use Rattle.tables.specs.Damage.{headsFit, vectorsFit, sessionsFit, sound}
 use Rattle.tables.proofs.Tests.{told, made, either, or-left, or-right}
 
 -- ---- room

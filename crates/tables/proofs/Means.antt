@@ -22,7 +22,8 @@ use Rattle.tables.specs.Sessions.{sessionAt}
 use Rattle.tables.specs.Stretch.{stretch}
 use Rattle.tables.specs.Meaning.{changeAt, recordAt, chainAt, entryAt, entries, sessionOf, meaning}
 use Rattle.tables.specs.Damage.{recordsFit}
-use Rattle.tables.proofs.Stretch.{stretch-none, stretch-step, stretch-join, length-stretch, tab-stretch, take-tab, drop-tab, part-tab}
+use Rattle.tables.proofs.Stretch.{stretch-none, stretch-step, stretch-join, length-stretch, tab-stretch, take-tab, drop-tab}
+use Rattle.tables.proofs.Stretch.{part-tab}
 use Rattle.tables.proofs.Facts.{each-record, last-end, ends-order}
 
 -- ---- the counts

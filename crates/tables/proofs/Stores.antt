@@ -14,7 +14,8 @@ use Rattle.rules.specs.Step.{seated}
 use Rattle.tables.specs.declared.session.Session.{Session}
 use Rattle.tables.specs.declared.counts.Stamp.{Stamp}
 use Rattle.tables.specs.declared.counts.Row.{Row}
-use Rattle.tables.specs.Cells.{Tables, tables, stampIn, changesIn, slotValue, slotStamp, slotLink, headOf, recordStamp, recordKind, recordRows, recordEnd, rowsInLog, endAt}
+use Rattle.tables.specs.Cells.{Tables, tables, stampIn, changesIn, slotValue, slotStamp, slotLink, headOf, recordStamp}
+use Rattle.tables.specs.Cells.{recordKind, recordRows, recordEnd, rowsInLog, endAt}
 use Rattle.tables.specs.Sessions.{freed, begun, sessionAt}
 use Rattle.tables.specs.Stretch.{stretch}
 use Rattle.tables.specs.Stores.{putSlot, putHead, putRecord, putChange}

@@ -20,7 +20,8 @@ use Rattle.tables.proofs.Stretch.{tab-stretch}
 use Rattle.tables.proofs.Facts.{Parts, parts, ClockFacts, clock-facts, clock-limits}
 use Rattle.tables.proofs.Slots.{each-head, slot-stamp-low, vector-bits}
 use Rattle.tables.proofs.Sessions.{OpenFacts, open-at, open-rows-few}
-use Rattle.tables.proofs.Means.{stamp-means, changes-means, rowsAt-means, chain-means, session-means, session-past, open-means, free-means, length-entries}
+use Rattle.tables.proofs.Means.{stamp-means, changes-means, rowsAt-means, chain-means, session-means, session-past, open-means}
+use Rattle.tables.proofs.Means.{free-means, length-entries}
 use Rattle.tables.proofs.Fits.{records-fit, chain-falls, chain-vectors, entries-fit, entries-once}
 
 module _ (t : Tables) (p : Parts t) where

@@ -8,7 +8,8 @@ use Rattle.bits.specs.All.{allBelow}
 use Rattle.bits.specs.Tail.{tailClear}
 use Rattle.rules.specs.Limits.{maxValues, maxRows, maxSlots, maxRecords, maxChanges, maxSessions, maxEntries}
 use Rattle.tables.specs.declared.session.Session.{Session}
-use Rattle.tables.specs.Cells.{Tables, valuesIn, firstIn, stampIn, rowsIn, slotsIn, changesIn, slotValue, slotStamp, slotLink, slotWords, headOf, recordStamp, recordKind, rowsInLog, endAt, changeRow, changeSet}
+use Rattle.tables.specs.Cells.{Tables, valuesIn, firstIn, stampIn, rowsIn, slotsIn, changesIn, slotValue, slotStamp, slotLink}
+use Rattle.tables.specs.Cells.{slotWords, headOf, recordStamp, recordKind, rowsInLog, endAt, changeRow, changeSet}
 use Rattle.tables.specs.Sessions.{sessionAt}
 
 -- a test at every place from a to b

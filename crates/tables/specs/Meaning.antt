@@ -10,7 +10,8 @@ use Rattle.bits.specs.Words.{bitAt}
 use Rattle.rules.specs.State.{Change, Kind, commits, tidies, Record, Version, Chain, Entry, alter, add, free, opened, State}
 use Rattle.rules.specs.State as rules
 use Rattle.tables.specs.declared.session.Session.{Session}
-use Rattle.tables.specs.Cells.{Tables, valuesIn, firstIn, stampIn, rowsIn, slotsIn, slotStamp, slotLink, slotWords, headOf, recordKind, recordRows, endAt, changeRow, changeSet}
+use Rattle.tables.specs.Cells.{Tables, valuesIn, firstIn, stampIn, rowsIn, slotsIn, slotStamp, slotLink, slotWords, headOf}
+use Rattle.tables.specs.Cells.{recordKind, recordRows, endAt, changeRow, changeSet}
 use Rattle.tables.specs.Sessions.{sessionAt}
 use Rattle.tables.specs.Stretch.{stretch}
 

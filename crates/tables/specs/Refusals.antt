@@ -1,7 +1,10 @@
 -- Document 01's number of each reason for a refusal.
 use Prim.Native.Nat.{ℕ}
 use Rattle.tables.specs.declared.refusal.Refusal.{Refusal}
-use Rattle.tables.specs.declared.refusal.Refusal.the-variants.{NoRoom, Damaged, BadColumn, NoSession, NotOpen, NoValue, NoRow, RowAbsent, ListFull, ShortScratch, ListEmpty, Conflict, NothingToMove, Stale, RowsFull, RecordsFull, ChangesFull, SlotsFull, Unreadable}
+use Rattle.tables.specs.declared.refusal.Refusal.the-variants.{NoRoom, Damaged, BadColumn, NoSession, NotOpen, NoValue, NoRow}
+use Rattle.tables.specs.declared.refusal.Refusal.the-variants.{RowAbsent, ListFull, ShortScratch, ListEmpty, Conflict}
+use Rattle.tables.specs.declared.refusal.Refusal.the-variants.{NothingToMove, Stale, RowsFull, RecordsFull, ChangesFull}
+use Rattle.tables.specs.declared.refusal.Refusal.the-variants.{SlotsFull, Unreadable}
 
 abbrev pub numberOf : Refusal → ℕ
 numberOf NoRoom = 1

@@ -8,7 +8,8 @@ use Rattle.tables.specs.Cells.{endAt}
 use Rattle.tables.specs.Damage.{allIn}
 use Rattle.change_damage.specs.Parts.{recordRowsFit}
 use Rattle.tables.proofs.Fold.{below-in, scan-end}
-use Rattle.change_damage.proofs.ChangeLaws.{Passed, none-passed, passed-below, passed-more, stretch-again, stretch-fails, stretch-order, stretch-low, stretch-ends}
+use Rattle.change_damage.proofs.ChangeLaws.{Passed, none-passed, passed-below, passed-more, stretch-again, stretch-fails}
+use Rattle.change_damage.proofs.ChangeLaws.{stretch-order, stretch-low, stretch-ends}
 use Rattle.change_damage.proofs.each_rows_fit.Statement.{statement}
 use Rattle.change_damage.proofs.each_rows_fit.Tie as tie
 use Rattle.bits.proofs.wide.Reads as wide-reads

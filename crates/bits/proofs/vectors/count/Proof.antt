@@ -1,4 +1,5 @@
--- `bits::vectors::count` meets its contract. The invariant: n is how many rows of the words before i are set. The measure is what is left of the words.
+-- `bits::vectors::count` meets its contract. The invariant: n is how many rows of the words before i are set. The measure is what
+-- is left of the words.
 use mathlib.Core.Path.{_≡_, ap, _∙_, sym}
 use Prim.Native.Nat.{ℕ, _*_, _+_, _-_, _≤_}
 use native.Mathlib.Omega.{arith}
@@ -22,8 +23,10 @@ unfolding countBelow
 loop-holds c = search needs
 
 -- a word has at most 64 bits set
-few : (c : tie.After-shared-slice-known Inv-loop μ-loop) → ones (getD (c .before .before .before .args .ws .now) (c .before .before .loop .i) 0) ≤ 64
-few c = ones-le 64 (getD (c .before .before .before .args .ws .now) (c .before .before .loop .i) 0) (c .shared-slice-known .given (c .before .before .loop .i) .fits)
+few : (c : tie.After-shared-slice-known Inv-loop μ-loop)
+    → ones (getD (c .before .before .before .args .ws .now) (c .before .before .loop .i) 0) ≤ 64
+few c = ones-le 64 (getD (c .before .before .before .args .ws .now) (c .before .before .loop .i) 0)
+    (c .shared-slice-known .given (c .before .before .loop .i) .fits)
 
 cast-n : tie.Need-cast-n Inv-loop μ-loop
 cast-n c = omega (arith, few c)
@@ -34,8 +37,11 @@ add-n c = omega (arith, few c, count-le (bitAt (c .before .before .before .args 
 loop-again : tie.Need-loop-again Inv-loop μ-loop
 loop-again c =
     let l = c .before .before .loop in
-    let ws = c .before .before .before .args .ws .now in
-    (search needs, ap (λ (x : ℕ). x + ones (getD ws (l .i) 0)) (l .inv .1) ∙ sym (count-word ws (l .i) (λ i. c .shared-slice-known .given i .fits)))
+    let ws = c .before .before .before .args .ws .now in (
+      search needs,
+      ap (λ (x : ℕ). x + ones (getD ws (l .i) 0)) (l .inv .1)
+          ∙ sym (count-word ws (l .i) (λ i. c .shared-slice-known .given i .fits)),
+    )
 
 returns : tie.Need-returns Inv-loop μ-loop
 unfolding countOf

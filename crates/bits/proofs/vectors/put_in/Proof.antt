@@ -1,4 +1,5 @@
--- `bits::vectors::put_in` meets its contract. A row below 2,048 is in word row / 64 of the 32, and the stored word is what `with_bit` ensures.
+-- `bits::vectors::put_in` meets its contract. A row below 2,048 is in word row / 64 of the 32, and the stored word is what
+-- `with_bit` ensures.
 use mathlib.Core.Path.{_≡_, ap, _∙_}
 use Prim.Native.Nat.{_/_, _%_}
 use native.Mathlib.Omega.{arith}

@@ -1,4 +1,5 @@
--- `bits::vectors::rest_of` meets its contract. The invariant: `all` is the OR of the words from `from` to j of the vector. The measure is what is left of the 32 words.
+-- `bits::vectors::rest_of` meets its contract. The invariant: `all` is the OR of the words from `from` to j of the vector. The
+-- measure is what is left of the 32 words.
 use mathlib.Core.Path.{_≡_}
 use Prim.Native.Nat.{_+_, _-_, _*_, _≤_}
 use borrow.Author.Needs.{needs}

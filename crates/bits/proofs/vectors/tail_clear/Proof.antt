@@ -1,4 +1,5 @@
--- `bits::vectors::tail_clear` meets its contract. Past the words there is nothing to test; else `tail-words` takes the one word and those after it together.
+-- `bits::vectors::tail_clear` meets its contract. Past the words there is nothing to test; else `tail-words` takes the one word and
+-- those after it together.
 use mathlib.Core.Path.{sym, ap, _∙_}
 use mathlib.Core.Bool.{Bool, _&&_}
 use Prim.Native.Nat.{_/_, _%_, _^_}

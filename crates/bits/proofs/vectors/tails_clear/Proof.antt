@@ -1,4 +1,5 @@
--- `bits::vectors::tails_clear` meets its contract. From row 2,048 on there is nothing to test; else `tails-words` takes the one word of all vectors and those after it together, and where the one word has a row the rest is not looked at.
+-- `bits::vectors::tails_clear` meets its contract. From row 2,048 on there is nothing to test; else `tails-words` takes the one
+-- word of all vectors and those after it together, and where the one word has a row the rest is not looked at.
 use mathlib.Core.Path.{sym, ap, ap₂, _∙_}
 use mathlib.Core.Bool.{Bool, _&&_}
 use Prim.Native.Nat.{ℕ, _+_, _/_, _%_, _^_}
@@ -20,16 +21,20 @@ returns-2 : tie.Need-returns-2
 returns-2 c =
     let s = c .before .before .before .before .args in
     ap (λ (t : Bool). t && zerosOfAll (s .words .now) (s .n) (s .row / 64 + 1))
-    (sym (ne-eqb (c .before .word-of-all .result / 2 ^ (s .row % 64)) 0 (c .if2 .taken)) ∙ ap (λ (w : ℕ). eqb (w / 2 ^ (s .row % 64)) 0) (c .before .word-of-all .ensures))
-    ∙ tails-words (s .words .now) (s .n) (s .row) (λ i. c .before .before .before .shared-slice-known .given i .fits) (omega arith) (omega arith)
+    (sym (ne-eqb (c .before .word-of-all .result / 2 ^ (s .row % 64)) 0 (c .if2 .taken))
+    ∙ ap (λ (w : ℕ). eqb (w / 2 ^ (s .row % 64)) 0) (c .before .word-of-all .ensures))
+    ∙ tails-words (s .words .now) (s .n) (s .row) (λ i. c .before .before .before .shared-slice-known .given i .fits) (omega arith)
+    (omega arith)
 
 returns-3 : tie.Need-returns-3
 returns-3 c =
     let s = c .before .before .before .before .before .args in
     ap₂ (λ (t z : Bool). t && z)
-    (sym (eq-eqb (c .before .before .word-of-all .result / 2 ^ (s .row % 64)) 0 (c .before .if2 .left)) ∙ ap (λ (w : ℕ). eqb (w / 2 ^ (s .row % 64)) 0) (c .before .before .word-of-all .ensures))
+    (sym (eq-eqb (c .before .before .word-of-all .result / 2 ^ (s .row % 64)) 0 (c .before .if2 .left))
+    ∙ ap (λ (w : ℕ). eqb (w / 2 ^ (s .row % 64)) 0) (c .before .before .word-of-all .ensures))
     (c .zero-in-all .ensures)
-    ∙ tails-words (s .words .now) (s .n) (s .row) (λ i. c .before .before .before .before .shared-slice-known .given i .fits) (omega arith) (omega arith)
+    ∙ tails-words (s .words .now) (s .n) (s .row) (λ i. c .before .before .before .before .shared-slice-known .given i .fits) (omega arith)
+    (omega arith)
 
 pub tails-clear-spec : {M : Type 1} → statement M
 tails-clear-spec =

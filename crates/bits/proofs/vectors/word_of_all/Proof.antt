@@ -1,4 +1,5 @@
--- `bits::vectors::word_of_all` meets its contract. The invariant: `all` is the OR of word j of the first i vectors. The measure is what is left of the vectors.
+-- `bits::vectors::word_of_all` meets its contract. The invariant: `all` is the OR of word j of the first i vectors. The measure is
+-- what is left of the vectors.
 use mathlib.Core.Path.{_≡_, ap, _∙_}
 use Prim.Native.Nat.{_+_, _-_, _*_, _≤_}
 use native.Mathlib.Omega.{arith}

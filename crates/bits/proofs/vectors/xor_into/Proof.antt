@@ -1,4 +1,5 @@
--- `bits::vectors::xor_into` meets its contract. The invariant: the words before i are those of `xorWords`. The measure is what is left of the words.
+-- `bits::vectors::xor_into` meets its contract. The invariant: the words before i are those of `xorWords`. The measure is what is
+-- left of the words.
 use mathlib.Core.Path.{ap, _∙_, sym}
 use Prim.Native.Nat.{_-_}
 use borrow.Author.Needs.{needs}

@@ -1,4 +1,5 @@
--- `bits::vectors::zero_from` meets its contract. The invariant: `all` is the OR of the words from `from` to i. The measure is what is left of the words.
+-- `bits::vectors::zero_from` meets its contract. The invariant: `all` is the OR of the words from `from` to i. The measure is what
+-- is left of the words.
 use mathlib.Core.Path.{_≡_, ap, _∙_}
 use Prim.Native.Nat.{ℕ, _-_, _≤_}
 use native.Mathlib.Omega.{arith}

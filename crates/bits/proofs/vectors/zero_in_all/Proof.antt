@@ -1,4 +1,5 @@
--- `bits::vectors::zero_in_all` meets its contract. The invariant: `all` is the OR of the words from `from` on of the first i vectors. The measure is what is left of the vectors.
+-- `bits::vectors::zero_in_all` meets its contract. The invariant: `all` is the OR of the words from `from` on of the first i
+-- vectors. The measure is what is left of the vectors.
 use mathlib.Core.Path.{_≡_, ap, _∙_}
 use Prim.Native.Nat.{ℕ, _-_, _≤_}
 use native.Mathlib.Omega.{arith}
@@ -32,7 +33,9 @@ returns c =
     let s = c .before .before .before .args in
     let l = c .before .loop in
     let e : l .i ≡ s .n = omega arith in
-    ap (λ (x : ℕ). eqb x 0) (l .inv .1 ∙ ap (orBelow (restOf (s .words .now) (s .from))) e) ∙ or-all (restOf (s .words .now) (s .from)) (s .n)
+    ap (λ (x : ℕ). eqb x 0) (l .inv .1 ∙ ap (orBelow (restOf (s .words .now) (s .from))) e)
+    ∙ or-all (restOf (s .words .now) (s .from)) (s .n)
 
 pub zero-in-all-spec : {M : Type 1} → statement M
-zero-in-all-spec = tie.close (tie.spec Inv-loop μ-loop loop-holds (λ c κs. search needs) (λ c. search needs) (λ c. search needs) loop-again returns)
+zero-in-all-spec = tie.close
+    (tie.spec Inv-loop μ-loop loop-holds (λ c κs. search needs) (λ c. search needs) (λ c. search needs) loop-again returns)

@@ -1,4 +1,5 @@
--- `create::column_known` meets its contract. The invariant: `ok` is the test of the bytes before r. The measure is what is left of the column.
+-- `create::column_known` meets its contract. The invariant: `ok` is the test of the bytes before r. The measure is what is left of
+-- the column.
 use borrow.Author.Needs.{needs}
 use Rattle.creating.proofs.CreateLaws.{knownTo, known-none, known-more, known-all}
 use lib.ListN.{length}

@@ -51,7 +51,8 @@ returns c =
     let l = c .before .loop2 in
     let k = c .before .before .before in
     let s = k .before .before .before .args in
-    numbered-to (k .before .wide .result) (s .cells .now) (l .cells) (l .i) (l .inv .0 (s .cells .now) (k .loop .inv .0)) (s .values .0) (s .n)
+    numbered-to (k .before .wide .result) (s .cells .now) (l .cells) (l .i) (l .inv .0 (s .cells .now) (k .loop .inv .0)) (s .values .0)
+    (s .n)
     (k .before .wide .ensures) (omega arith) (omega arith)
 
 pub numbered-spec : {M : Type 1} → statement M

@@ -44,7 +44,8 @@ place-spec 𝓤 H 𝓜 𝓖 𝓡 =
     let b : ℕ = s .0 .0 in let o : ℕ = s .0 .1 in
     let ys : List Session = y .0 in let n : ℕ = y .1 .0 in let x : Session = sessionAt (y .0) (y .1 .0) in
     opened ! (ty session) l (both tests points) ts (cells ps 0) bs (holds ps 0 s y) $
-    -- [the result 0; the answer 2; the place 4; whether it is one 6; the count 8; offset 10; pointer 12; element 14; slice 16; n 18; tokens;
+    -- [the result 0; the answer 2; the place 4; whether it is one 6; the count 8; offset 10; pointer 12; element 14; slice 16; n
+    -- 18; tokens;
     -- owned]
     asks-values 𝓜 𝓖 𝓡 code.env ! fm [] session (λ y r z. r ≡ freed)
     (record { name = free-def.name; routine = free-def.routine; met = free-thm.met })
