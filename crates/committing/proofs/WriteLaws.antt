@@ -2,7 +2,7 @@
 use mathlib.Core.Path.{_≡_, refl, sym, ap, ap₂, _∙_}
 use mathlib.Core.Option.{Option, some}
 use mathlib.Core.List.{List, [], _∷_, _++_}
-use Prim.Native.Nat.{ℕ, suc, _+_, _≤_, _<_}
+use Prim.Native.Nat.{ℕ, suc, _+_, _-_, _≤_, _<_}
 use native.Mathlib.Omega.{arith}
 use borrow.Author.Tests.{lt-ltb, le-ltb}
 use lib.ListN.{length, getD, set, length-append}
@@ -214,17 +214,21 @@ module _ (clock log : List ℕ) (c : Clock) (k : c ≡ clockIn clock) where
   unfolding clockIn
   tick-low h = rw k (omega arith)
 
-  pub record-low : stampIn clock < 512 → c .stamp .0 < 512
-  unfolding clockIn
-  record-low h = rw k h
+  pub record-first : (rows : Row) (next : Clock) → next ≡ later c rows → 0 < next .stamp .0
+  unfolding later
+  record-first rows next e = rw e (omega arith)
+
+  pub record-low : (rows : Row) (next : Clock) → stampIn clock < 512 → next ≡ later c rows → next .stamp .0 ≤ 512
+  unfolding clockIn later
+  record-low rows next h e = rw (e, k) (omega arith)
 
   pub recorded-is : (rows : Row) (end : ℕ) (next : Clock) (clock₁ clock′ log′ : List ℕ) → next ≡ later c rows
-      → log′ ≡ putRecord log (c .stamp .0) 1 (rows .0) end
+      → log′ ≡ putRecord log (next .stamp .0 - 1) 1 (rows .0) end
       → clock₁ ≡ putMoment clock (next .stamp .0) (next .rows .0) → clock′ ≡ putChangesUsed clock₁ end
       → Recorded clock log (rows .0) end clock′ log′ (At (next .stamp) rows)
   unfolding clockIn later putMoment putChangesUsed
   recorded-is rows end next clock₁ clock′ log′ e p q r = record {
     clock-is = rw (r, q, e, k);
-    log-is = rw (p, k);
+    log-is = let z : stampIn clock + 1 - 1 ≡ stampIn clock = omega arith in rw (p, e, k, z);
     says = rw (e, k);
   }

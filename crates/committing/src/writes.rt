@@ -183,10 +183,9 @@ fn write_commit(clock: &mut [u32], log: &mut [u32], rows: Row, end: u32) -> Answ
     ensures { λ r. ⌜ Recorded (now (clock .entry)) (now (log .entry)) (rows .0) end (now (clock .exit)) (now (log .exit)) r ⌝ }
 {
     let c = tables::clock_of(clock);
-    let before = c.stamp;
     let next = lent::ticked(c, rows);
     let stamp = next.stamp;
-    tables::put_record(log, before, 1, rows, end);
+    tables::put_record(log, stamp, 1, rows, end);
     tables::put_moment(clock, next);
     tables::put_changes_used(clock, end);
     Answer::At(stamp, rows)

@@ -1,8 +1,8 @@
 -- What the readers and writers of cells use: a cell one place before, and a clock that may be too short.
-use mathlib.Core.Path.{_≡_, sym, ap, _∙_}
+use mathlib.Core.Path.{_≡_, sym, ap, ap₂, _∙_}
 use mathlib.Core.Bool.{Bool, cond}
 use mathlib.Core.List.{List}
-use Prim.Native.Nat.{ℕ, zero, suc, _+_, _≤_, _<_}
+use Prim.Native.Nat.{ℕ, zero, suc, _+_, _-_, _≤_, _<_}
 use native.Mathlib.Omega.{arith}
 use borrow.Author.Tests.{le-leb, lt-leb}
 use lib.ListN.{length, getD, set}
@@ -27,11 +27,13 @@ cell-at l i k r e q = q ∙ ap (λ (j : ℕ). getD l j 0) e
 pub set-at-same : (l : List ℕ) (i k x : ℕ) → k ≡ i → set l k x ≡ set l i x
 set-at-same l i k x e = ap (λ (j : ℕ). set l j x) e
 
--- the four stores of a record under another name of its place
-pub record-at : (log : List ℕ) (s k kind rows end : ℕ) → k ≡ s
-    → set (set (set (set log k (s + 1)) (512 + k) kind) (1024 + k) rows) (1536 + k) end ≡ putRecord log s kind rows end
+-- the four stores of the record of stamp s
+pub record-at : (log : List ℕ) (s k kind rows end : ℕ) → 0 < s → k ≡ s - 1
+    → set (set (set (set log k s) (512 + k) kind) (1024 + k) rows) (1536 + k) end ≡ putRecord log (s - 1) kind rows end
 unfolding putRecord
-record-at log s k kind rows end e = ap (λ (j : ℕ). set (set (set (set log j (s + 1)) (512 + j) kind) (1024 + j) rows) (1536 + j) end) e
+record-at log s k kind rows end h e =
+    let z : s ≡ s - 1 + 1 = omega arith in
+    ap₂ (λ (j x : ℕ). set (set (set (set log j x) (512 + j) kind) (1024 + j) rows) (1536 + j) end) e z
 
 -- a clock with too few cells, and one with enough
 pub clock-short : (clock : List ℕ) → length clock < 6 → clockOf 0 0 0 0 ≡ lentClock clock

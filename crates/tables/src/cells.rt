@@ -3,7 +3,7 @@ use crate::counts::Row;
 use crate::counts::Stamp;
 use crate::counts::Value;
 ghost use mathlib.Core.Path.{_≡_};
-ghost use Prim.Native.Nat.{_+_, _<_, _≤_};
+ghost use Prim.Native.Nat.{_+_, _-_, _<_, _≤_};
 ghost use lib.ListN.{length, set};
 ghost use Rattle.tables.specs.Cells.{slotStamp, slotLink, headOf, endAt, rowsInLog, changeRow, changeSet};
 ghost use Rattle.tables.specs.Stores.{putSlot, putHead, putRecord, putChange};
@@ -92,13 +92,13 @@ pub fn put_head(heads: &mut [u32], v: Value, i: u32)
     heads[at] = i;
 }
 
-// The record after stamp `before` gets its stamp, its kind, its row count and the end of its changes.
-pub fn put_record(log: &mut [u32], before: Stamp, kind: u32, rows: Row, end: u32)
-    requires { ⌜ (before .0 < 512) × (2048 ≤ length (now log)) ⌝ }
-    ensures { λ _. ⌜ now (log .exit) ≡ putRecord (now (log .entry)) (before .0) kind (rows .0) end ⌝ }
+// The record of a stamp gets that stamp, its kind, its row count and the end of its changes.
+pub fn put_record(log: &mut [u32], stamp: Stamp, kind: u32, rows: Row, end: u32)
+    requires { ⌜ (0 < stamp .0) × (stamp .0 ≤ 512) × (2048 ≤ length (now log)) ⌝ }
+    ensures { λ _. ⌜ now (log .exit) ≡ putRecord (now (log .entry)) (stamp .0 - 1) kind (rows .0) end ⌝ }
 {
-    let k = bits::wide(before.0);
-    log[k] = before.0 + 1;
+    let k = bits::wide(stamp.0 - 1);
+    log[k] = stamp.0;
     log[512 + k] = kind;
     log[1024 + k] = rows.0;
     log[1536 + k] = end;

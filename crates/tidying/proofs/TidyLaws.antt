@@ -2,7 +2,7 @@
 use mathlib.Core.Path.{_≡_, refl, sym, ap, ap₂, _∙_, subst}
 use mathlib.Core.Option.{Option, none, some}
 use mathlib.Core.List.{List, [], _∷_}
-use Prim.Native.Nat.{ℕ, _+_, _≤_, _<_}
+use Prim.Native.Nat.{ℕ, _+_, _-_, _≤_, _<_}
 use native.Mathlib.Omega.{arith}
 use borrow.Author.Tests.{leb-false, ltb-false}
 use lib.ListN.{length, set}
@@ -51,21 +51,26 @@ unfolding putMoment putSlotsUsed putChangesUsed
 counts-written clock c₁ c₂ c₃ stamp rows slots changes a b c =
     rw (c, b, a)
 
-module _ (clock : List ℕ) (c : Clock) (e : c ≡ clockIn clock) where
-  pub stamp-low : stampIn clock < 512 → c .stamp .0 < 512
-  unfolding clockIn
-  stamp-low h = rw e h
+pub stamp-fits : (clock : List ℕ) (c : Clock) → c ≡ clockIn clock → stampIn clock < 512 → c .stamp .0 < 4294967295
+unfolding clockIn
+stamp-fits clock c e h = rw e (omega arith)
 
-  pub stamp-fits : stampIn clock < 512 → c .stamp .0 < 4294967295
-  unfolding clockIn
-  stamp-fits h = rw e (omega arith)
+module _ (clock : List ℕ) where
+  module _ (next : Clock) (n : next ≡ later (clockIn clock) (clockIn clock .rows)) where
+    pub stamp-first : 0 < next .stamp .0
+    unfolding later
+    stamp-first = rw n (omega arith)
+
+    pub stamp-low : stampIn clock < 512 → next .stamp .0 ≤ 512
+    unfolding clockIn later
+    stamp-low h = rw n (omega arith)
 
   module _ (moved used slots : ℕ) (u : used ≡ changesIn clock) (s : slots ≡ slotsIn clock) (next : Clock)
       (n : next ≡ later (clockIn clock) (clockIn clock .rows)) where
-    pub log-tidied : (log log′ : List ℕ) → log′ ≡ putRecord log (c .stamp .0) 2 (next .rows .0) (used + moved)
+    pub log-tidied : (log log′ : List ℕ) → log′ ≡ putRecord log (next .stamp .0 - 1) 2 (next .rows .0) (used + moved)
         → log′ ≡ tidyLog clock log moved
     unfolding later clockIn
-    log-tidied log log′ q = rw (q, e, n, u)
+    log-tidied log log′ q = let z : stampIn clock + 1 - 1 ≡ stampIn clock = omega arith in rw (q, n, u, z)
 
     pub clock-tidied : (clock′ : List ℕ)
         → clock′ ≡ set (set (set (set clock 2 (next .stamp .0)) 3 (next .rows .0)) 4 (slots + 1)) 5 (used + moved)

@@ -1,4 +1,4 @@
-// Tidy.
+// Tidy: its refusals, and what it writes: a version, a record, the clock.
 use lent::Seat;
 use outcomes::Answer;
 use outcomes::Test;
@@ -208,13 +208,11 @@ fn write_tidy(clock: &mut [u32], log: &mut [u32], next: Clock, moved: u32) -> An
         (now (log .exit) ≡ tidyLog (now (clock .entry)) (now (log .entry)) moved) ×
         (said r ≡ numbers ((stampIn (now (clock .entry)) + 1) ∷ moved ∷ [])) ⌝ }
 {
-    let c = tables::clock_of(clock);
-    let before = c.stamp;
     let stamp = next.stamp;
     let rows = next.rows;
     let end = tables::changes_used(clock) + moved;
     let slots = tables::slots_used(clock) + 1;
-    tables::put_record(log, before, 2, rows, end);
+    tables::put_record(log, stamp, 2, rows, end);
     write_counts(clock, next, slots, end);
     Answer::At(stamp, Row(moved))
 }

@@ -1,6 +1,6 @@
 -- `writes::write_commit` meets its contract: the record, and the clock one stamp later.
 use borrow.Author.Needs.{needs}
-use Rattle.committing.proofs.WriteLaws.{tick-low, record-low, recorded-is}
+use Rattle.committing.proofs.WriteLaws.{tick-low, record-first, record-low, recorded-is}
 use Rattle.committing.proofs.writes.write_commit.Statement.{statement}
 use Rattle.committing.proofs.writes.write_commit.Tie as tie
 
@@ -10,7 +10,7 @@ write-commit-spec =
     (tie.spec
     (λ c κs. search needs)
     (λ c κs. search tick-low)
-    (λ c κs. (search record-low, search needs))
+    (λ c κs. (search record-first, search record-low, search needs))
     (λ c κs. search needs)
     (λ c κs. search needs)
     (λ c. search needs)

@@ -1,5 +1,5 @@
 -- `tidy::write_tidy` meets its contract.
-use Rattle.tidying.proofs.TidyLaws.{stamp-low, clock-tidied, log-tidied, tidy-said}
+use Rattle.tidying.proofs.TidyLaws.{stamp-first, stamp-low, clock-tidied, log-tidied, tidy-said}
 use borrow.Author.Needs.{needs}
 use Rattle.tidying.proofs.tidy.write_tidy.Statement.{statement}
 use Rattle.tidying.proofs.tidy.write_tidy.Tie as tie
@@ -9,11 +9,10 @@ write-tidy-spec =
     tie.close
     (tie.spec
     (λ c κs. search needs)
-    (λ c κs. search needs)
     (λ c. search needs)
     (λ c κs. search needs)
     (λ c. search needs)
-    (λ c κs. (search stamp-low, search needs))
+    (λ c κs. (search stamp-first, search stamp-low, search needs))
     (λ c κs. search needs)
     (λ c. search needs)
     (λ c. search needs)
