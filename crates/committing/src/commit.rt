@@ -70,7 +70,7 @@ fn commit_now(
     }
 }
 
-// Commit.
+// Commit: the stamp and the row count after it, and whether the session is to be freed.
 pub fn commit_in(
     clock: &mut [u32],
     slots: &[u32],

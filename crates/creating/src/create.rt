@@ -1,4 +1,4 @@
-// Create.
+// Create: its refusals, and the tables filled from a column.
 use outcomes::Answer;
 use outcomes::Freed;
 use tables::Clock;
@@ -121,7 +121,7 @@ fn create_work(
     Answer::Count(rows.0)
 }
 
-// Create.
+// Create: the row count, and whether every session is to be freed.
 pub fn create_in(
     clock: &mut [u32],
     slots: &mut [u32],

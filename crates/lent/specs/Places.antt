@@ -10,7 +10,7 @@ use native.Mathlib.Numerals.{add-one}
 use borrow.Author.Tests.{lt-ltb, le-ltb}
 use lib.Dec.{T, ltb, nltb→le}
 use lib.ListN.{length, set, replicate, List·getD-eq-default}
-use lib.Seq.{sets, length-sets, set-out, set-getD, getD-set-same, getD-set-other}
+use lib.Seq.{sets, length-sets, set-out, getD-set-same, getD-set-other}
 use mir.Facts.{and-yes, and-no}
 use Rattle.bits.proofs.Cases.{eq-cases, lt-cases}
 use Rattle.tables.specs.declared.session.Session.{Session}
@@ -85,19 +85,7 @@ put-near : (ts : List Session) (i : ℕ) (s : Session) → i < 16 → putAt ts i
 unfolding putAt
 put-near ts i s l = ap (λ (t : Bool). cond t (set ts i s) ts) (lt-ltb i 16 l)
 
--- the place has the session that was put there, and the others have theirs
-pub put-at-same : (ts : List Session) (i : ℕ) (s : Session) → i < 16 → i < length ts → sessionAt (putAt ts i s) i ≡ s
-put-at-same ts i s l h = ap (λ (us : List Session). sessionAt us i) (put-near ts i s l) ∙ getD-set-same ts i s freed h
-
-pub put-at-other : (ts : List Session) (i j : ℕ) (s : Session) → (j ≡ i → ⊥) → sessionAt (putAt ts i s) j ≡ sessionAt ts j
-unfolding putAt
-put-at-other ts i j s ne = go (ltb i 16)
-  where
-    go : (t : Bool) → sessionAt (cond t (set ts i s) ts) j ≡ sessionAt ts j
-    go true = getD-set-other ts i j s freed ne
-    go false = refl
-
--- nothing changes where there is no such place, or where what is put is there already
+-- nothing changes where there is no such place
 pub put-at-far : (ts : List Session) (i : ℕ) (s : Session) → 16 ≤ i → putAt ts i s ≡ ts
 unfolding putAt
 put-at-far ts i s l = ap (λ (t : Bool). cond t (set ts i s) ts) (le-ltb i 16 l)
@@ -107,10 +95,6 @@ pub put-meant : (ts : List Session) (n : ℕ) (z : Bool) (s : Session) → putAt
 unfolding listedBack
 put-meant ts n true s = refl
 put-meant ts n false s = put-at-far ts 16 s (omega arith)
-
-pub put-at-again : (ts : List Session) (i : ℕ) → putAt ts i (sessionAt ts i) ≡ ts
-unfolding putAt
-put-at-again ts i = ap (λ (us : List Session). cond (ltb i 16) us ts) (set-getD ts i freed) ∙ same-both (ltb i 16) ts
 
 pub length-freed-all : (ts : List Session) → length (freedAll ts) ≡ length ts
 unfolding freedAll
