@@ -1,12 +1,12 @@
 -- Laws of a whole line: a request by the word's numbers asks for what the line means.
 use mathlib.Core.Path.{_≡_, refl, sym, ap, _∙_}
 use mathlib.Core.List.{List, [], _∷_, map}
-use mathlib.Core.Bool.{Bool, true, false, cond}
+use mathlib.Core.Bool.{Bool, true, false, cond, true≢false}
 use mathlib.Core.Option.{Option, none, some}
 use Prim.Native.Nat.{ℕ, _+_, _*_, _<_, _≤_}
 use native.Mathlib.Omega.{arith}
-use borrow.Author.Tests.{le-leb, lt-leb, leb-true, ne-eqb}
-use lib.Dec.{eqb, leb}
+use borrow.Author.Tests.{le-leb, lt-leb, leb-true}
+use lib.Dec.{leb}
 use lib.ListN.{length, take, drop}
 use lib.Seq.{sets, sets-eq, take-at, length-sets}
 use Rattle.bits.specs.Column.{valueOf, value-none, value-some}
@@ -14,6 +14,8 @@ use Rattle.rules.specs.Limits.{usualThreshold, vectorWords}
 use Rattle.rules.specs.Calls.{Call, create, begin, query, read, update, delete, insert, commit, tidy, abort}
 use Rattle.text.specs.declared.words.Word.{Word}
 use Rattle.text.specs.declared.words.Word.the-variants as word
+use Rattle.text.specs.declared.words.Shape.{Shape}
+use Rattle.text.specs.declared.words.Shape.the-variants as shape
 use Rattle.text.specs.declared.requests.Request.{Request}
 use Rattle.text.specs.Bytes.{bytes, same}
 use Rattle.text.specs.Split.{split, space}
@@ -21,7 +23,7 @@ use Rattle.text.specs.Number.{number}
 use Rattle.text.specs.Parse.{withFirst, each, whenAll, andThen, noMore, one, two, three, upTo254, small, holding, cellOf}
 use Rattle.text.specs.Parse.{both, column, wordCall, fieldsCall, longestLine, parse}
 use Rattle.text.specs.Places.{upTo, endAt, after}
-use Rattle.text.specs.Words.{orWord, laterWord, wordOf, arityOf}
+use Rattle.text.specs.Words.{orWord, laterWord, wordOf, shapeOf}
 use Rattle.text.specs.Cells.{byteOf, orEnd, bytesOf}
 use Rattle.text.specs.Asked.{askedBy, asked, ifRead, columnBytes, fieldsBytes, lineBytes, Requested, ask, unreadable, orUnread}
 use Rattle.text.specs.Asked.{oneAsked, twoAsked, threeAsked, columnAsked, Columned}
@@ -120,6 +122,15 @@ take-sets d l h =
     let e : 0 + length l ≤ length d = omega arith in
     rw (sets-eq l d 0 e, take-at l (drop (0 + length l) d) (length l) refl)
 
+-- ---- only a column stores bytes
+
+unfoldable pub isColumn : Shape → Bool
+isColumn shape.One = false
+isColumn shape.Two = false
+isColumn shape.Three = false
+isColumn shape.Column = true
+isColumn shape.Nothing = false
+
 -- ---- a request asks for its word's call, and a column's values are among the lent bytes
 
 pub record Fits (r : Request) (d : List ℕ) (call : Option Call) : Type 0 where
@@ -145,11 +156,12 @@ module _ (d : List ℕ) where
   fits-then m k h [] = unread-fits d
   fits-then m k h (a ∷ l) = h a l
 
-  module _ (w : Word) (other : arityOf w < 4) where
+  module _ (w : Word) (other : isColumn (shapeOf w) ≡ false) where
     fits-end : (a b c : ℕ) (call : Call) → askedBy w a b c d ≡ some call → (l : List ℕ)
         → Fits (orUnread (noMore (ask w a b c) l)) d (noMore call l)
-    unfolding asked arityOf noMore orUnread
-    fits-end a b c call e [] = record { means = e; within = λ q. absurd (omega (arith, ap arityOf q)) }
+    unfolding asked isColumn shapeOf noMore orUnread
+    fits-end a b c call e [] =
+        record { means = e; within = λ q. absurd (true≢false (sym (ap (λ (v : Word). isColumn (shapeOf v)) q) ∙ other)) }
     fits-end a b c call e (x ∷ l) = unread-fits d
 
     fits-one : (call : ℕ → Call) → ((a : ℕ) → askedBy w a 0 0 d ≡ some (call a)) → (o : Option (List ℕ))
@@ -184,20 +196,20 @@ fits-column [] d h = unread-fits d
 fits-column (c ∷ vs) d h =
     rw (each-values vs) (fits-both (small c) (each byteOf vs) (bytesOf vs) d (all-stored vs) (omega (arith, bytes-size vs)))
 
--- ---- by the count of a word's numbers
+-- ---- by what follows a word
 
-unfoldable pub byArity : ℕ → Word → List (List ℕ) → Request
-byArity n w fs =
-    cond (eqb n 1) (oneAsked w fs) (
-    cond (eqb n 2) (twoAsked w fs) (
-    cond (eqb n 3) (threeAsked w fs) (
-    cond (eqb n 4) (columnAsked fs) unreadable)))
+unfoldable pub byShape : Shape → Word → List (List ℕ) → Request
+byShape shape.One w fs = oneAsked w fs
+byShape shape.Two w fs = twoAsked w fs
+byShape shape.Three w fs = threeAsked w fs
+byShape shape.Column w fs = columnAsked fs
+byShape shape.Nothing w fs = unreadable
 
-unfoldable pub bytesBy : ℕ → List (List ℕ) → List ℕ
-bytesBy n fs = cond (eqb n 4) (columnBytes fs) []
+unfoldable pub bytesBy : Shape → List (List ℕ) → List ℕ
+bytesBy s fs = cond (isColumn s) (columnBytes fs) []
 
 or-bytes : (t : Bool) (w v : Word) (fs : List (List ℕ))
-    → bytesBy (arityOf (orWord t w v)) fs ≡ cond t (bytesBy (arityOf w) fs) (bytesBy (arityOf v) fs)
+    → bytesBy (shapeOf (orWord t w v)) fs ≡ cond t (bytesBy (shapeOf w) fs) (bytesBy (shapeOf v) fs)
 unfolding orWord
 or-bytes true w v fs = refl
 or-bytes false w v fs = refl
@@ -206,24 +218,24 @@ either : (t : Bool) (l : List ℕ) → cond t l l ≡ l
 either true l = refl
 either false l = refl
 
-word-bytes : (f : List ℕ) (fs : List (List ℕ)) → bytesBy (arityOf (wordOf f)) fs ≡ cond (same f (bytes "column")) (columnBytes fs) []
-unfolding wordOf laterWord arityOf bytesBy
+word-bytes : (f : List ℕ) (fs : List (List ℕ)) → bytesBy (shapeOf (wordOf f)) fs ≡ cond (same f (bytes "column")) (columnBytes fs) []
+unfolding wordOf laterWord shapeOf isColumn bytesBy
 word-bytes f fs = simp (or-bytes, either)
 
 fits-word : (w : Word) (fs : List (List ℕ)) (d : List ℕ) → size fs ≤ 2 * length d
-    → Fits (byArity (arityOf w) w fs) (sets d 0 (bytesBy (arityOf w) fs)) (callOf w fs)
-unfolding byArity bytesBy arityOf callOf askedBy
+    → Fits (byShape (shapeOf w) w fs) (sets d 0 (bytesBy (shapeOf w) fs)) (callOf w fs)
+unfolding byShape bytesBy isColumn shapeOf callOf askedBy
 fits-word word.Column fs d h = fits-column fs d h
-fits-word word.Begin fs d h = fits-one d word.Begin (omega arith) begin (λ a. refl) (each number fs)
+fits-word word.Begin fs d h = fits-one d word.Begin refl begin (λ a. refl) (each number fs)
 fits-word word.Query fs d h =
-    fits-two d word.Query (omega arith) (λ i v. query i v usualThreshold vectorWords) (λ a b. refl) (each number fs)
-fits-word word.Read fs d h = fits-two d word.Read (omega arith) read (λ a b. refl) (each number fs)
-fits-word word.Update fs d h = fits-three d word.Update (omega arith) update (λ a b c. refl) (each number fs)
-fits-word word.Delete fs d h = fits-two d word.Delete (omega arith) delete (λ a b. refl) (each number fs)
-fits-word word.Insert fs d h = fits-two d word.Insert (omega arith) insert (λ a b. refl) (each number fs)
-fits-word word.Commit fs d h = fits-one d word.Commit (omega arith) commit (λ a. refl) (each number fs)
-fits-word word.Tidy fs d h = fits-two d word.Tidy (omega arith) tidy (λ a b. refl) (each number fs)
-fits-word word.Abort fs d h = fits-one d word.Abort (omega arith) abort (λ a. refl) (each number fs)
+    fits-two d word.Query refl (λ i v. query i v usualThreshold vectorWords) (λ a b. refl) (each number fs)
+fits-word word.Read fs d h = fits-two d word.Read refl read (λ a b. refl) (each number fs)
+fits-word word.Update fs d h = fits-three d word.Update refl update (λ a b c. refl) (each number fs)
+fits-word word.Delete fs d h = fits-two d word.Delete refl delete (λ a b. refl) (each number fs)
+fits-word word.Insert fs d h = fits-two d word.Insert refl insert (λ a b. refl) (each number fs)
+fits-word word.Commit fs d h = fits-one d word.Commit refl commit (λ a. refl) (each number fs)
+fits-word word.Tidy fs d h = fits-two d word.Tidy refl tidy (λ a b. refl) (each number fs)
+fits-word word.Abort fs d h = fits-one d word.Abort refl abort (λ a. refl) (each number fs)
 fits-word word.Unknown fs d h = unread-fits d
 
 -- ---- the returns of `request`
@@ -237,12 +249,12 @@ line-long line entry r h e =
       within = λ q. rw e (omega arith);
     }
 
-module _ (line entry : List ℕ) (at n : ℕ) (w : Word) (short : length line ≤ 8192) (room : length line ≤ 2 * length entry)
-    (a : at ≡ endAt space line 0) (e : w ≡ wordOf (take at line)) (k : n ≡ arityOf w) where
-  by-arity : (exit : List ℕ) (r : Request) → r ≡ byArity n w (after space line at) → exit ≡ sets entry 0 (bytesBy n (after space line at))
+module _ (line entry : List ℕ) (at : ℕ) (w : Word) (p : Shape) (short : length line ≤ 8192) (room : 4096 ≤ length entry)
+    (a : at ≡ endAt space line 0) (e : w ≡ wordOf (take at line)) (k : p ≡ shapeOf w) where
+  by-shape : (exit : List ℕ) (r : Request) → r ≡ byShape p w (after space line at) → exit ≡ sets entry 0 (bytesBy p (after space line at))
       → Requested line entry exit r
   unfolding parse lineBytes fieldsCall fieldsBytes longestLine size
-  by-arity exit r q c =
+  by-shape exit r q c =
       let fs = after space line at in
       let wo : w ≡ wordOf (upTo space line) = e ∙ rw (take-first space line at a) in
       let s : split space line ≡ upTo space line ∷ fs = split-start space line at a in
@@ -255,26 +267,25 @@ module _ (line entry : List ℕ) (at n : ℕ) (w : Word) (short : length line �
       }
 
   module _ (r : Request) where
-    pub line-one : n ≡ 1 → r ≡ oneAsked w (after space line at) → Requested line entry entry r
-    unfolding byArity bytesBy
-    line-one i q = by-arity entry r (q ∙ rw i) (rw i)
+    pub line-one : p ≡ shape.One → r ≡ oneAsked w (after space line at) → Requested line entry entry r
+    unfolding byShape bytesBy isColumn
+    line-one i q = by-shape entry r (q ∙ rw i) (rw i)
 
-    pub line-two : n ≡ 2 → r ≡ twoAsked w (after space line at) → Requested line entry entry r
-    unfolding byArity bytesBy
-    line-two i q = by-arity entry r (q ∙ rw i) (rw i)
+    pub line-two : p ≡ shape.Two → r ≡ twoAsked w (after space line at) → Requested line entry entry r
+    unfolding byShape bytesBy isColumn
+    line-two i q = by-shape entry r (q ∙ rw i) (rw i)
 
-    pub line-three : n ≡ 3 → r ≡ threeAsked w (after space line at) → Requested line entry entry r
-    unfolding byArity bytesBy
-    line-three i q = by-arity entry r (q ∙ rw i) (rw i)
+    pub line-three : p ≡ shape.Three → r ≡ threeAsked w (after space line at) → Requested line entry entry r
+    unfolding byShape bytesBy isColumn
+    line-three i q = by-shape entry r (q ∙ rw i) (rw i)
 
-    pub line-column : (exit : List ℕ) → n ≡ 4 → Columned line at entry exit r → Requested line entry exit r
-    unfolding byArity bytesBy
-    line-column exit i q = by-arity exit r (q .request-is ∙ rw i) (q .bytes-are ∙ rw i)
+    pub line-column : (exit : List ℕ) → p ≡ shape.Column → Columned line at entry exit r → Requested line entry exit r
+    unfolding byShape bytesBy isColumn
+    line-column exit i q = by-shape exit r (q .request-is ∙ rw i) (q .bytes-are ∙ rw i)
 
-    pub line-unread : (n ≡ 1 → ⊥) → (n ≡ 2 → ⊥) → (n ≡ 3 → ⊥) → (n ≡ 4 → ⊥) → r ≡ unreadable → Requested line entry entry r
-    unfolding byArity bytesBy
-    line-unread i j l m q =
-        by-arity entry r (q ∙ rw (ne-eqb n 1 i, ne-eqb n 2 j, ne-eqb n 3 l, ne-eqb n 4 m)) (rw (ne-eqb n 4 m))
+    pub line-unread : p ≡ shape.Nothing → r ≡ unreadable → Requested line entry entry r
+    unfolding byShape bytesBy isColumn
+    line-unread i q = by-shape entry r (q ∙ rw i) (rw i)
 
 -- where the first field ends, there is a place of the line
 pub first-within : (line : List ℕ) (at : ℕ) → at ≡ endAt space line 0 → at ≤ length line

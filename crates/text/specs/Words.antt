@@ -1,10 +1,12 @@
--- The word that a field is, as the code's type, and how many numbers it takes.
+-- The word that a field is, as the code's type, and what follows it.
 use mathlib.Core.Bool.{Bool, true, false}
 use mathlib.Core.List.{List}
 use Prim.Native.Nat.{ℕ}
 use Rattle.text.specs.declared.words.Word.{Word}
 use Rattle.text.specs.declared.words.Word.the-variants.{Column, Begin, Query, Read, Update}
 use Rattle.text.specs.declared.words.Word.the-variants.{Delete, Insert, Commit, Tidy, Abort, Unknown}
+use Rattle.text.specs.declared.words.Shape.{Shape}
+use Rattle.text.specs.declared.words.Shape.the-variants as shape
 use Rattle.text.specs.Bytes.{bytes, same}
 
 -- the first word where the test holds, or the second
@@ -32,16 +34,16 @@ wordOf f =
     orWord (same f (bytes "update")) Update (
     laterWord f)))))
 
--- how many numbers a word takes; 4 stands for a column
-unfoldable pub arityOf : Word → ℕ
-arityOf Column = 4
-arityOf Begin = 1
-arityOf Query = 2
-arityOf Read = 2
-arityOf Update = 3
-arityOf Delete = 2
-arityOf Insert = 2
-arityOf Commit = 1
-arityOf Tidy = 2
-arityOf Abort = 1
-arityOf Unknown = 0
+-- what follows a word: "Others take session, then row, then value, where they have them"
+unfoldable pub shapeOf : Word → Shape
+shapeOf Column = shape.Column
+shapeOf Begin = shape.One
+shapeOf Query = shape.Two
+shapeOf Read = shape.Two
+shapeOf Update = shape.Three
+shapeOf Delete = shape.Two
+shapeOf Insert = shape.Two
+shapeOf Commit = shape.One
+shapeOf Tidy = shape.Two
+shapeOf Abort = shape.One
+shapeOf Unknown = shape.Nothing

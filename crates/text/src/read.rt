@@ -3,13 +3,15 @@ use crate::fields;
 use crate::requests;
 use crate::requests::Request;
 use crate::words;
-ghost use Prim.Native.Nat.{_*_, _≤_};
+use crate::words::Shape;
+ghost use Prim.Native.Nat.{_≤_};
 ghost use lib.ListN.{length};
 ghost use Rattle.text.specs.Asked.{Requested};
 
-// What a line asks for; a column's values go into `column` from its front, which takes one for each two bytes of the line.
+// What a line asks for; one of more than 8,192 bytes is not read. A column's values go into `column` from its front, which takes one for each
+// two bytes of the longest line.
 pub fn request(line: &[u8], column: &mut [u8]) -> Request
-    requires { ⌜ length (now line) ≤ 2 * length (now column) ⌝ }
+    requires { ⌜ 4096 ≤ length (now column) ⌝ }
     ensures { λ r. ⌜ Requested (now (line .entry)) (now (column .entry)) (now (column .exit)) r ⌝ }
 {
     if 8192 < line.len() {
@@ -17,18 +19,12 @@ pub fn request(line: &[u8], column: &mut [u8]) -> Request
     }
     let at = fields::end_from(line, 0, 32);
     let word = words::word_of(&line[..at]);
-    let n = words::arity(word);
-    if n == 1 {
-        return requests::one_request(word, line, at);
+    let shape = words::shape_of(word);
+    match shape {
+        Shape::One => requests::one_request(word, line, at),
+        Shape::Two => requests::two_request(word, line, at),
+        Shape::Three => requests::three_request(word, line, at),
+        Shape::Column => requests::column_request(line, at, column),
+        Shape::Nothing => requests::unread(),
     }
-    if n == 2 {
-        return requests::two_request(word, line, at);
-    }
-    if n == 3 {
-        return requests::three_request(word, line, at);
-    }
-    if n == 4 {
-        return requests::column_request(line, at, column);
-    }
-    requests::unread()
 }

@@ -1,7 +1,7 @@
 // The word that a line starts with.
 ghost use mathlib.Core.Path.{_≡_};
 ghost use Rattle.text.specs.Bytes.{same};
-ghost use Rattle.text.specs.Words.{wordOf, laterWord, arityOf};
+ghost use Rattle.text.specs.Words.{wordOf, laterWord, shapeOf};
 
 // The ten words, and any other first field.
 pub enum Word {
@@ -69,21 +69,30 @@ pub fn word_of(field: &[u8]) -> Word
     later_word(field)
 }
 
-// How many numbers a word takes; 4 stands for a column.
-pub fn arity(word: Word) -> u64
-    ensures { λ r. ⌜ r ≡ arityOf word ⌝ }
+// What follows a word: so many numbers, or C and a column's values. Nothing that follows another field makes a call.
+pub enum Shape {
+    One,
+    Two,
+    Three,
+    Column,
+    Nothing,
+}
+
+// What follows a word.
+pub fn shape_of(word: Word) -> Shape
+    ensures { λ r. ⌜ r ≡ shapeOf word ⌝ }
 {
     match word {
-        Word::Column => 4,
-        Word::Update => 3,
-        Word::Begin => 1,
-        Word::Commit => 1,
-        Word::Abort => 1,
-        Word::Query => 2,
-        Word::Read => 2,
-        Word::Delete => 2,
-        Word::Insert => 2,
-        Word::Tidy => 2,
-        Word::Unknown => 0,
+        Word::Column => Shape::Column,
+        Word::Update => Shape::Three,
+        Word::Begin => Shape::One,
+        Word::Commit => Shape::One,
+        Word::Abort => Shape::One,
+        Word::Query => Shape::Two,
+        Word::Read => Shape::Two,
+        Word::Delete => Shape::Two,
+        Word::Insert => Shape::Two,
+        Word::Tidy => Shape::Two,
+        Word::Unknown => Shape::Nothing,
     }
 }

@@ -1,12 +1,12 @@
--- `text::words::arity` meets its contract.
+-- `text::words::shape_of` meets its contract.
 use borrow.Author.Needs.{needs}
-use Rattle.text.specs.Words.{arityOf}
-use Rattle.text.proofs.words.arity.Statement.{statement}
-use Rattle.text.proofs.words.arity.Tie as tie
+use Rattle.text.specs.Words.{shapeOf}
+use Rattle.text.proofs.words.shape_of.Statement.{statement}
+use Rattle.text.proofs.words.shape_of.Tie as tie
 
-pub arity-spec : {M : Type 1} → statement M
-unfolding arityOf
-arity-spec =
+pub shape-of-spec : {M : Type 1} → statement M
+unfolding shapeOf
+shape-of-spec =
     tie.close
     (tie.spec
     (λ c. search needs)
