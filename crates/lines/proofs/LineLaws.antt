@@ -10,48 +10,39 @@ use lib.ListN.{length}
 use lib.Seq.{sets}
 use Rattle.tables.specs.declared.session.Session.{Session}
 use Rattle.tables.specs.Cells.{Tables, tables}
-use Rattle.tables.proofs.Tests.{and-both}
-use Rattle.text.specs.declared.words.Word.the-variants as word
 use Rattle.text.specs.declared.requests.Request.{Request}
-use Rattle.text.specs.Parse.{parse, longestLine}
-use Rattle.text.specs.Asked.{ask, askedBy, asked, lineBytes, Requested}
+use Rattle.text.specs.Parse.{parse}
+use Rattle.text.specs.Asked.{asked, lineBytes, Requested}
 use Rattle.outcomes.specs.Said.{Said}
 use Rattle.lines.specs.declared.sessions.Left.{Left}
 use Rattle.lines.specs.Left.{leaves}
 use Rattle.lines.specs.Turn.{Turn, turnOf, heardFrom, Turned}
-use Rattle.lines.specs.Line.{LineOutcome, lineOutcome, enough, answerLine, PutLine, written, lineOf}
+use Rattle.lines.specs.Line.{lineOutcome, enough, answerLine, PutLine, written, lineOf}
 use Rattle.lines.proofs.TurnLaws.{all-stand}
 
--- a line that is too long is not read
-pub long-line : (line column : List ℕ) → 8192 < length line → Requested line column column (ask word.Unknown 0 0 0)
-unfolding asked askedBy parse lineBytes longestLine
-long-line line column l =
-    let b : leb (length line) 8192 ≡ false = lt-leb (length line) 8192 l in
-    record { means = rw b; bytes-are = rw b; within = λ e. absurd (let z : _≡_ {A = ℕ} 0 1 = cc in omega (arith, z)) }
+-- ---- where there is room for any answer and any column, what was asked for is done and written
 
--- what was asked for, done and written
+pub line-read : (t : Tables) (scratch column out line : List ℕ) → 4096 ≤ length column → 10276 ≤ length out
+    → written (turnOf t scratch (parse line)) line column out ≡ lineOf t scratch column out line
+unfolding lineOf enough
+line-read t scratch column out line c o = rw (le-leb 4096 (length column) c, le-leb 10276 (length out) o)
+
 pub line-done : (t t′ : Tables) (scratch scratch′ line column column′ out out′ : List ℕ) (wish : Request) (a : Said) (len : ℕ)
-    → Requested line column column′ wish → Turned t t′ scratch scratch′ (asked wish column′) a
+    → 4096 ≤ length column → 10276 ≤ length out → Requested line column column′ wish → Turned t t′ scratch scratch′ (asked wish column′) a
     → PutLine out (heardFrom (t′ .words) scratch′ a) out′ len
-    → lineOutcome t′ scratch′ column′ out′ len ≡ written (turnOf t scratch (parse line)) line column out
+    → lineOutcome t′ scratch′ column′ out′ len ≡ lineOf t scratch column out line
 unfolding written
-line-done t t′ scratch scratch′ line column column′ out out′ wish a len q h w =
+line-done t t′ scratch scratch′ line column column′ out out′ wish a len c o q h w =
     let told = heardFrom (t′ .words) scratch′ a in
     let many : len ≡ length (answerLine told) = omega (arith, w .wrote .place-is) in
     ap₂ (λ (col o : List ℕ). lineOutcome t′ scratch′ col o len) (q .bytes-are) (w .wrote .list-is)
     ∙ ap (lineOutcome t′ scratch′ (sets column 0 (lineBytes line)) (sets out 0 (answerLine told))) many
     ∙ ap (λ (o : Turn). written o line column out) (h ∙ ap (turnOf t scratch) (q .means))
+    ∙ line-read t scratch column out line c o
 
--- ---- room
+-- ---- where there is not, nothing is done
 
 module _ (t : Tables) (scratch column out line : List ℕ) where
-  pub line-read : (o : LineOutcome) → 4096 ≤ length column → 10276 ≤ length out
-      → o ≡ written (turnOf t scratch (parse line)) line column out → o ≡ lineOf t scratch column out line
-  unfolding lineOf enough
-  line-read o c l e =
-      e ∙ ap (λ (b : Bool). cond b (written (turnOf t scratch (parse line)) line column out) (lineOutcome t scratch column out 0))
-      (sym (and-both (leb 4096 (length column)) (leb 10276 (length out)) (le-leb 4096 (length column) c) (le-leb 10276 (length out) l)))
-
   short : leb 4096 (length column) && leb 10276 (length out) ≡ false → lineOutcome t scratch column out 0 ≡ lineOf t scratch column out line
   unfolding lineOf enough
   short e = ap (λ (b : Bool). cond b (written (turnOf t scratch (parse line)) line column out) (lineOutcome t scratch column out 0)) (sym e)

@@ -43,7 +43,7 @@ module _ (t t′ : Tables) (s s′ column column′ out out′ line : List ℕ) 
   unfolding wholeLine afterLines answersOf written
   replied-line whole w c l e k =
       let o : lineOutcome t′ s′ column′ out′ len ≡ written (turnOf t s (parse line)) line column out =
-      e ∙ sym (line-read t s column out line (written (turnOf t s (parse line)) line column out) c l refl) in
+      e ∙ sym (line-read t s column out line c l) in
       let one : answerLine (turnOf t s (parse line) .answer) ++ [] ≡ answerLine (turnOf t s (parse line) .answer) = append-nil _ in
       let r : Replied (desk t s) (line ∷ []) out (desk t′ s′) out′ len = record {
         desk-is = ap (λ (x : LineOutcome). desk (x .after) (x .scratch)) o;

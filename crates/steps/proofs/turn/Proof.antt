@@ -1,6 +1,7 @@
 -- `turn` meets its contract.
-use mathlib.Core.Path.{sym, _∙_}
+use mathlib.Core.Path.{_≡_, sym, _∙_}
 use mathlib.Core.Bool.{true≢false}
+use native.Mathlib.Omega.{arith}
 use borrow.Author.Needs.{needs}
 use Rattle.steps.proofs.ProgramLaws.{read-end}
 use Rattle.steps.proofs.turn.Statement.{statement}
@@ -10,7 +11,8 @@ returns : tie.Need-returns
 returns c =
     let r = c .before .before .before .before in
     let pre = r .before .before .before .before .before .before .before .before .before .before .before .before .before .before .pre in
-    (read-end _ _ _ _ (pre .2) (r .read .ensures .watch-is) (c .if1 .taken), λ e. absurd (true≢false (sym e)))
+    let none : r .read .result .n ≡ 0 = omega (arith, c .if1 .taken) in
+    (read-end _ _ _ _ (pre .2) (r .read .ensures .watch-is) none, λ e. absurd (true≢false (sym e)))
 
 -- what was read was gone through
 abbrev through : tie.After-slice-known22 → tie.After-whole
