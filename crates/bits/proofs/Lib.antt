@@ -2,6 +2,7 @@
 
 pub mod Cases
 pub mod AllLaws
+pub mod AnyLaws
 pub mod OrLaws
 pub mod BitLaws
 pub mod TrailingLaws
@@ -12,6 +13,7 @@ pub mod WordLaws
 pub mod VecLaws
 pub mod TailLaws
 pub mod RowLaws
+pub mod WordRows
 pub mod VecOps
 pub mod VectorLaws
 pub mod ColumnLaws

@@ -3,12 +3,21 @@ use mathlib.Core.Path.{_≡_, refl, sym, ap, ap₂, _∙_, subst}
 use mathlib.Core.List.{List, [], _∷_, _++_, append-nil}
 use mathlib.Core.Logic.{⊎-elim}
 use Prim.Native.Nat.{ℕ, zero, suc, _+_, _-_, _≤_, _<_, zero-le}
-use native.Mathlib.Nat.{eq-or-lt-of-le, le-of-suc-le-suc, not-suc-le-zero, lt-suc-self}
+use native.Mathlib.Nat.{eq-or-lt-of-le, le-of-suc-le-suc, not-suc-le-zero, lt-suc-self, zero-add}
 use native.Mathlib.Numerals.{add-one}
 use native.Mathlib.Omega.{arith}
 use lib.ListN.{length, getD, set, drop, length-append, length-drop, length-set, List·getD-append}
-use lib.Seq.{set-at, drop-cons, append-snoc, getD-append-seam, drop-length, ext-getD}
+use lib.Seq.{sets, sets-eq, set-at, drop-cons, append-snoc, getD-append-seam, getD-append-add, getD-drop, drop-length, ext-getD}
 use Rattle.bits.specs.Tab.{over, tab}
+
+-- stored one after another
+pub sets-append : (a b l : List ℕ) (i : ℕ) → sets l i (a ++ b) ≡ sets (sets l i a) (i + length a) b
+sets-append [] b l i = let e : i + 0 ≡ i = omega arith in rw e
+sets-append (x ∷ a) b l i = let e : i + suc (length a) ≡ suc i + length a = omega arith in rw e (sets-append a b (set l i x) (suc i))
+
+-- stored one by one from the front
+pub sets-over : (l d : List ℕ) → length l ≤ length d → sets d 0 l ≡ over l d
+sets-over l d h = sets-eq l d 0 (omega arith) ∙ rw (zero-add (length l))
 
 -- one more store
 pub over-more : (l d : List ℕ) (v : ℕ) → length l < length d → set (over l d) (length l) v ≡ over (l ++ (v ∷ [])) d
@@ -23,6 +32,13 @@ over-all l d e = ap (λ (n : ℕ). l ++ drop n d) e ∙ ap (λ (t : List ℕ). l
 
 pub length-over : (l d : List ℕ) → length l ≤ length d → length (over l d) ≡ length d
 length-over l d h = omega (arith, length-append l (drop (length l) d), length-drop (length l) d)
+
+-- a place past those stored
+pub over-past : (l d : List ℕ) (i : ℕ) → length l ≤ i → getD (over l d) i 0 ≡ getD d i 0
+over-past l d i h =
+    let e : length l + (i - length l) ≡ i = omega arith in
+    ap (λ (k : ℕ). getD (over l d) k 0) (sym e) ∙ getD-append-add l (drop (length l) d) (i - length l) 0
+    ∙ getD-drop (length l) d (i - length l) 0 ∙ ap (λ (k : ℕ). getD d k 0) e
 
 module _ {A : Type 0} where
   pub length-tab : (g : ℕ → A) (n : ℕ) → length (tab g n) ≡ n
@@ -88,6 +104,10 @@ module _ (g : ℕ → ℕ) where
     same = length-set d i v ∙ f .same;
     sofar = ap₂ (λ (t : List ℕ) (x : ℕ). set t i x) (f .sofar) e ∙ stored-more g i d₀ (omega (arith, f .same));
   }
+
+  -- what is still to be stored over stands as it was
+  pub filled-ahead : {d₀ d : List ℕ} {i : ℕ} → Filled g d₀ d i → getD d i 0 ≡ getD d₀ i 0
+  filled-ahead {d₀} {d} {i} f = ap (λ (t : List ℕ). getD t i 0) (f .sofar) ∙ over-past (tab g i) d₀ i (omega (arith, length-tab g i))
 
   pub filled-all : {d₀ d : List ℕ} {i : ℕ} → Filled g d₀ d i → length d ≤ i → d ≡ tab g (length d₀)
   filled-all {d₀} {d} {i} f h =

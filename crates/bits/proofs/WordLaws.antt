@@ -9,13 +9,13 @@ use borrow.Author.Tests.{eq-eqb, ne-eqb}
 use lib.Dec.{eqb, lit<}
 use lib.ListN.{length, getD, set, length-set, List·getD-eq-default}
 use lib.Seq.{ext-getD, getD-set-same, getD-set-other, set-out}
-use lib.Bits.{xor-lt}
+use lib.Bits.{bitOr, xor-lt, or-lt}
 use Rattle.bits.specs.Bit.{xorb, bit}
-use Rattle.bits.proofs.BitLaws.{bit-ext, bit-of-zero, bit-xor, bit-set, bit-clear, set-lt, clear-lt}
+use Rattle.bits.proofs.BitLaws.{bit-ext, bit-of-zero, bit-or, bit-xor, bit-set, bit-clear, set-lt, clear-lt}
 use Rattle.bits.proofs.Cases.{eq-cases, lt-cases}
 use Rattle.bits.specs.Tab.{tab}
-use Rattle.bits.proofs.TabLaws.{length-tab, getD-tab}
-use Rattle.bits.specs.Words.{bitAt, Words, putBit, putAt, xorAt, xorWords}
+use Rattle.bits.proofs.TabLaws.{length-tab, getD-tab, Filled, filled-more, filled-ahead}
+use Rattle.bits.specs.Words.{bitAt, Words, putBit, putAt, xorAt, xorWords, mergedWords}
 
 pub bit-of-word : (ws : List ℕ) (i k : ℕ) → k < 64 → bitAt ws (i * 64 + k) ≡ bit (getD ws i 0) k
 unfolding bitAt
@@ -84,6 +84,24 @@ bitAt-xor a b r h =
     ap (λ (w : ℕ). bit w (r % 64)) (getD-tab (xorAt a b) (length a) (r / 64) 0 (omega arith))
     ∙ bit-xor (getD a (r / 64) 0) (getD b (r / 64) 0) (r % 64)
 
+-- a loop that merges goes on
+pub merged-more : (a b : List ℕ) {d₀ d : List ℕ} {i : ℕ} → Filled (λ j. bitOr (getD d₀ j 0) (xorAt a b j)) d₀ d i → i < length d
+    → Filled (λ j. bitOr (getD d₀ j 0) (xorAt a b j)) d₀ (set d i (bitOr (getD d i 0) (xorAt a b i))) (i + 1)
+merged-more a b {d₀} {d} {i} f h =
+    filled-more (λ j. bitOr (getD d₀ j 0) (xorAt a b j)) f h
+    (ap (λ (w : ℕ). bitOr w (xorAt a b i)) (filled-ahead (λ j. bitOr (getD d₀ j 0) (xorAt a b j)) f))
+
+pub length-merged : (d a b : List ℕ) → length (mergedWords d a b) ≡ length d
+unfolding mergedWords
+length-merged d a b = length-tab (λ i. bitOr (getD d i 0) (xorAt a b i)) (length d)
+
+pub bitAt-merged : (d a b : List ℕ) (r : ℕ) → r < length d * 64 → bitAt (mergedWords d a b) r ≡ bitAt d r || xorb (bitAt a r) (bitAt b r)
+unfolding mergedWords bitAt
+bitAt-merged d a b r h =
+    ap (λ (w : ℕ). bit w (r % 64)) (getD-tab (λ i. bitOr (getD d i 0) (xorAt a b i)) (length d) (r / 64) 0 (omega arith))
+    ∙ bit-or (getD d (r / 64) 0) (xorAt a b (r / 64)) (r % 64)
+    ∙ ap (λ (x : Bool). bit (getD d (r / 64) 0) (r % 64) || x) (bit-xor (getD a (r / 64) 0) (getD b (r / 64) 0) (r % 64))
+
 -- ---- words stay words
 
 pub words-set : (ws : List ℕ) (i w : ℕ) → Words ws → w < 2 ^ 64 → Words (set ws i w)
@@ -115,3 +133,9 @@ words-tab g n h i =
 pub words-xor : (a b : List ℕ) → Words a → Words b → Words (xorWords a b)
 unfolding xorWords
 words-xor a b ha hb = words-tab (xorAt a b) (length a) (λ i. xor-lt 64 (getD a i 0) (getD b i 0) (ha i) (hb i))
+
+pub words-merged : (d a b : List ℕ) → Words d → Words a → Words b → Words (mergedWords d a b)
+unfolding mergedWords
+words-merged d a b hd ha hb =
+    words-tab (λ i. bitOr (getD d i 0) (xorAt a b i)) (length d)
+    (λ i. or-lt 64 (getD d i 0) (xorAt a b i) (hd i) (xor-lt 64 (getD a i 0) (getD b i 0) (ha i) (hb i)))

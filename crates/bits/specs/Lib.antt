@@ -2,6 +2,7 @@
 
 pub mod Choice
 pub mod All
+pub mod Any
 pub mod OrWords
 pub mod Bit
 pub mod Sets

@@ -1,10 +1,11 @@
 -- The numbers below n that have f: how many they are, their list, ascending, and the smallest; and the same of the set rows of a vector.
 use mathlib.Core.Path.{_≡_}
 use mathlib.Core.Bool.{Bool, true, false, cond}
-use mathlib.Core.List.{List, [], _∷_, _++_}
+use mathlib.Core.List.{List, [], _∷_, _++_, map}
 use mathlib.Core.Option.{Option, none, some}
 use Prim.Native.Nat.{ℕ, zero, suc, _+_, _*_, _<_}
 use lib.ListN.{length, getD}
+use Rattle.bits.specs.Bit.{bit}
 use Rattle.bits.specs.Choice.{orElse}
 use Rattle.bits.specs.Words.{bitAt}
 
@@ -25,6 +26,10 @@ countOf ws = countBelow (bitAt ws) (length ws * 64)
 -- the rows of a vector that are set, ascending
 unfoldable pub rowsOf : List ℕ → List ℕ
 rowsOf ws = rowsBelow (bitAt ws) (length ws * 64)
+
+-- the rows of a word whose first row is `base`, ascending
+unfoldable pub wordRows : ℕ → ℕ → List ℕ
+wordRows w base = map (λ k. base + k) (rowsBelow (bit w) 64)
 
 -- ---- the rows ascend
 

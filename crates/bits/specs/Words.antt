@@ -3,7 +3,7 @@ use mathlib.Core.Bool.{Bool, cond}
 use mathlib.Core.List.{List}
 use Prim.Native.Nat.{ℕ, _/_, _%_, _^_, _<_}
 use lib.ListN.{length, getD, set}
-use lib.Bits.{bitXor}
+use lib.Bits.{bitOr, bitXor}
 use Rattle.bits.specs.Bit.{bit, setBit, clearBit}
 use Rattle.bits.specs.Tab.{tab}
 
@@ -25,7 +25,7 @@ putBit w k on = cond on (setBit w k) (clearBit w k)
 unfoldable pub putAt : List ℕ → ℕ → Bool → List ℕ
 putAt ws r on = set ws (r / 64) (putBit (getD ws (r / 64) 0) (r % 64) on)
 
--- ---- two lists of words, bit by bit
+-- ---- lists of words, bit by bit
 
 -- word i of the two, bit by bit
 abbrev pub xorAt : List ℕ → List ℕ → ℕ → ℕ
@@ -34,3 +34,7 @@ xorAt a b i = bitXor (getD a i 0) (getD b i 0)
 -- the words of a with the bits of b turned over
 unfoldable pub xorWords : List ℕ → List ℕ → List ℕ
 xorWords a b = tab (xorAt a b) (length a)
+
+-- the words of d with the bits of `a xor b` set too
+unfoldable pub mergedWords : List ℕ → List ℕ → List ℕ → List ℕ
+mergedWords d a b = tab (λ i. bitOr (getD d i 0) (xorAt a b i)) (length d)

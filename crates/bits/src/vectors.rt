@@ -3,7 +3,7 @@ ghost use mathlib.Core.Path.{_≡_};
 ghost use mathlib.Core.Bool.{false};
 ghost use Prim.Native.Nat.{_+_, _*_, _≤_, _<_};
 ghost use lib.ListN.{length};
-ghost use Rattle.bits.specs.Words.{bitAt, putBit, putAt, xorWords};
+ghost use Rattle.bits.specs.Words.{bitAt, putBit, putAt, xorWords, mergedWords};
 ghost use Rattle.bits.specs.Vec.{vec};
 ghost use Rattle.bits.specs.Rows.{countOf};
 ghost use Rattle.bits.specs.Tail.{tailClear, zerosFrom};
@@ -59,6 +59,18 @@ pub fn xor_into(dst: &mut [u64], a: &[u64], mask: &[u64])
     let mut i = 0;
     while i < dst.len() {
         dst[i] = a[i] ^ mask[i];
+        i += 1;
+    }
+}
+
+// The rows of `a` with those of `mask` turned over are set too.
+pub fn merge(dst: &mut [u64], a: &[u64], mask: &[u64])
+    requires { ⌜ (length (now a) ≡ length (now dst)) × (length (now mask) ≡ length (now dst)) ⌝ }
+    ensures { λ _. ⌜ now (dst .exit) ≡ mergedWords (now (dst .entry)) (now (a .entry)) (now (mask .entry)) ⌝ }
+{
+    let mut i = 0;
+    while i < dst.len() {
+        dst[i] = dst[i] | (a[i] ^ mask[i]);
         i += 1;
     }
 }

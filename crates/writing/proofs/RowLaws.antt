@@ -1,108 +1,23 @@
--- Laws of the rows of a vector, a word at a time, and from one set bit of a word to the next.
-use mathlib.Core.Path.{_≡_, refl, sym, ap, ap₂, _∙_}
-use mathlib.Core.List.{List, [], _∷_, _++_, append-assoc, append-nil, map, map-append}
-use mathlib.Core.Bool.{Bool, true, false, cond, true≢false}
-use mathlib.Core.Logic.{_⊎_, inl, inr}
-use Prim.Native.Nat.{ℕ, zero, suc, _+_, _-_, _*_, _/_, _%_, _^_, _<_, _≤_, min}
-use native.Mathlib.Nat.{add-suc, add-zero, pow-suc, pos-of-ne-zero}
-use native.Mathlib.Numerals.{one-add}
+-- Laws of the loops that write the rows of a vector: from one set bit of a word to the next, and a word at a time.
+use mathlib.Core.Path.{_≡_, refl, sym, ap, _∙_}
+use mathlib.Core.List.{List, [], _∷_}
+use mathlib.Core.Bool.{Bool, cond}
+use Prim.Native.Nat.{ℕ, _+_, _-_, _*_, _^_, _<_, _≤_}
 use native.Mathlib.Omega.{arith}
-use lib.Bits.{bitAnd, and-step, and-self, and-le-l}
-use lib.Count.{trailingZeros, under}
-use lib.Dec.{eqb}
-use lib.ListN.{length, getD, length-append, length-map}
+use lib.Bits.{bitAnd, and-le-l}
+use lib.Count.{trailingZeros}
+use lib.ListN.{length, getD, length-append}
 use lib.Seq.{sets}
-use Rattle.bits.specs.Bit.{bit}
-use Rattle.bits.proofs.BitLaws.{bit-zero, bit-suc, bit-of-zero, bit-above}
-use Rattle.bits.proofs.Cases.{lt-cases}
 use Rattle.bits.specs.Words.{bitAt}
-use Rattle.bits.proofs.WordLaws.{bit-of-word}
-use Rattle.bits.specs.Rows.{rowsBelow, rowsOf, countOf}
-use Rattle.bits.proofs.RowLaws.{length-rows, count-le, rows-ext}
-use Rattle.bits.proofs.TrailingLaws.{tz-bit}
+use Rattle.bits.specs.Rows.{rowsBelow, rowsOf, countOf, wordRows}
+use Rattle.bits.proofs.RowLaws.{count-le}
+use Rattle.bits.proofs.TabLaws.{sets-append}
+use Rattle.bits.proofs.WordRows.{lowest-lt, word-none, word-first, word-less, word-length, word-all, count-rows}
 use Rattle.rules.specs.Calls.{ok, listed}
 use Rattle.text.specs.Show.{spaced, show}
-use Rattle.writing.specs.Wrote.{Wrote, Answered, fieldOf, wordRows}
+use Rattle.writing.specs.Wrote.{Wrote, Answered, fieldOf}
 use Rattle.writing.proofs.ShowLaws.{decimal-fits, spaced-append}
-use Rattle.writing.proofs.WroteLaws.{sets-append, wrote-then, ok-then}
-
--- ---- rows in two parts
-
-map-one : (m n : ℕ) (t : Bool) → map (λ k. m + k) (cond t (n ∷ []) []) ≡ cond t ((m + n) ∷ []) []
-map-one m n true = refl
-map-one m n false = refl
-
-pub rows-split : (f : ℕ → Bool) (m n : ℕ) → rowsBelow f (m + n) ≡ rowsBelow f m ++ map (λ k. m + k) (rowsBelow (λ k. f (m + k)) n)
-unfolding rowsBelow
-rows-split f m zero = rw (add-zero m, append-nil (rowsBelow f m))
-rows-split f m (suc n) =
-    rw (add-suc m n, map-append (λ k. m + k) (rowsBelow (λ k. f (m + k)) n) (cond (f (m + n)) (n ∷ []) []), map-one m n (f (m + n)))
-    (ap (λ (l : List ℕ). l ++ cond (f (m + n)) ((m + n) ∷ []) []) (rows-split f m n)
-    ∙ append-assoc (rowsBelow f m) (map (λ k. m + k) (rowsBelow (λ k. f (m + k)) n)) (cond (f (m + n)) ((m + n) ∷ []) []))
-
--- ---- the lowest set bit of a number, and the others
-
-rows-step : (x n : ℕ) → rowsBelow (bit x) (suc n) ≡ cond (eqb (x % 2) 1) (0 ∷ []) [] ++ map (λ k. 1 + k) (rowsBelow (bit (x / 2)) n)
-unfolding rowsBelow
-rows-step x n =
-    ap (rowsBelow (bit x)) (sym (one-add n)) ∙ rows-split (bit x) 1 n
-    ∙ ap₂ (λ (t : Bool) (l : List ℕ). cond t (0 ∷ []) [] ++ map (λ k. 1 + k) l) (bit-zero x)
-    (rows-ext (λ k. bit x (1 + k)) (bit (x / 2)) n (λ k h. ap (bit x) (one-add k) ∙ bit-suc x k))
-
-no-rows : (n : ℕ) → rowsBelow (bit 0) n ≡ []
-unfolding rowsBelow
-no-rows zero = refl
-no-rows (suc n) = rw (no-rows n, bit-of-zero n)
-
-lowest : (n x : ℕ) → x < 2 ^ n → 0 < x → rowsBelow (bit x) n ≡ trailingZeros n x ∷ rowsBelow (bit (bitAnd x (x - 1))) n
-unfolding trailingZeros
-lowest zero x h p = absurd (omega arith)
-lowest (suc n) x h p = go (x % 2) refl (omega arith) (lowest n (x / 2) (half (rw (pow-suc 2 n) at h)))
-  where
-    half : x < 2 ^ n * 2 → x / 2 < 2 ^ n
-    half l = omega arith
-
-    rest : (h : ℕ) → bitAnd x (x - 1) ≡ h * 2 → rowsBelow (bit (bitAnd x (x - 1))) (suc n) ≡ map (λ k. 1 + k) (rowsBelow (bit h) n)
-    rest h e =
-        let a : bitAnd x (x - 1) % 2 ≡ 0 = omega arith in
-        let b : bitAnd x (x - 1) / 2 ≡ h = omega arith in
-        rows-step (bitAnd x (x - 1)) n ∙ rw (a, b)
-
-    go : (d : ℕ) → x % 2 ≡ d → d < 2
-        → (0 < x / 2 → rowsBelow (bit (x / 2)) n ≡ trailingZeros n (x / 2) ∷ rowsBelow (bit (bitAnd (x / 2) (x / 2 - 1))) n)
-        → rowsBelow (bit x) (suc n) ≡ under d (trailingZeros n (x / 2)) ∷ rowsBelow (bit (bitAnd x (x - 1))) (suc n)
-    go zero e l ih =
-        let a : (x - 1) / 2 ≡ x / 2 - 1 = omega arith in
-        let b : min (x % 2) ((x - 1) % 2) ≡ 0 = omega arith in
-        let c : bitAnd x (x - 1) ≡ bitAnd (x / 2) (x / 2 - 1) * 2 = and-step x (x - 1) ∙ rw (a, b) (omega arith) in
-        rows-step x n ∙ rw (e, ih (omega arith), rest (bitAnd (x / 2) (x / 2 - 1)) c, one-add)
-    go (suc zero) e l ih =
-        let a : (x - 1) / 2 ≡ x / 2 = omega arith in
-        let b : min (x % 2) ((x - 1) % 2) ≡ 0 = omega arith in
-        let c : bitAnd x (x - 1) ≡ x / 2 * 2 = and-step x (x - 1) ∙ rw (a, b, and-self (x / 2)) (omega arith) in
-        rows-step x n ∙ rw (e, rest (x / 2) c)
-    go (suc (suc d)) e l ih = absurd (omega arith)
-
-pub lowest-lt : (n x : ℕ) → x < 2 ^ n → (x ≡ 0 → ⊥) → trailingZeros n x < n
-lowest-lt n x h p = go (lt-cases (trailingZeros n x) n)
-  where
-    go : (trailingZeros n x < n) ⊎ (n ≤ trailingZeros n x) → trailingZeros n x < n
-    go (inl l) = l
-    go (inr l) = absurd (true≢false (sym (tz-bit n x h (pos-of-ne-zero p)) ∙ bit-above n x (trailingZeros n x) h l))
-
--- ---- the rows of a word
-
-word-none : (x base : ℕ) → x ≡ 0 → wordRows x base ≡ []
-unfolding wordRows
-word-none x base e = rw (e, no-rows 64)
-
-word-first : (x base : ℕ) → x < 2 ^ 64 → (x ≡ 0 → ⊥) → wordRows x base ≡ (base + trailingZeros 64 x) ∷ wordRows (bitAnd x (x - 1)) base
-unfolding wordRows
-word-first x base h p = ap (map (λ k. base + k)) (lowest 64 x h (pos-of-ne-zero p))
-
-word-length : (x base : ℕ) → length (wordRows x base) ≤ 64
-unfolding wordRows
-word-length x base = omega (arith, length-map (rowsBelow (bit x) 64) (λ k. base + k), length-rows (bit x) 64, count-le (bit x) 64)
+use Rattle.writing.proofs.WroteLaws.{wrote-then, ok-then}
 
 -- ---- a loop that writes the rows of a word: what is written, and what is still to come
 
@@ -128,7 +43,7 @@ module _ (entry out : List ℕ) (start at w base x : ℕ) (g : Rowing entry out 
     row-room h = omega (arith, g .left, g .room, ap length (word-first x base (g .low) some))
 
     pub row-less : length (wordRows (bitAnd x (x - 1)) base) < length (wordRows x base)
-    row-less = omega (arith, ap length (word-first x base (g .low) some))
+    row-less = word-less x base (g .low) some
 
     pub rowing-step : (n r : ℕ) (f : List ℕ) → base + 64 ≤ 10000 → n ≡ base + trailingZeros 64 x → Wrote out at (fieldOf n) f r
         → Rowing entry f start r w base (bitAnd x (x - 1))
@@ -160,14 +75,6 @@ module _ (entry out : List ℕ) (start at w base x : ℕ) (g : Rowing entry out 
 
 -- ---- word by word: the rows of the first i words are written
 
-word-all : (ws : List ℕ) (i : ℕ) → rowsBelow (bitAt ws) ((i + 1) * 64) ≡ rowsBelow (bitAt ws) (i * 64) ++ wordRows (getD ws i 0) (i * 64)
-unfolding wordRows
-word-all ws i =
-    let e : (i + 1) * 64 ≡ i * 64 + 64 = omega arith in
-    ap (rowsBelow (bitAt ws)) e ∙ rows-split (bitAt ws) (i * 64) 64
-    ∙ ap (λ (l : List ℕ). rowsBelow (bitAt ws) (i * 64) ++ map (λ k. i * 64 + k) l)
-    (rows-ext (λ k. bitAt ws (i * 64 + k)) (bit (getD ws i 0)) 64 (λ k h. bit-of-word ws i k h))
-
 pub record Worded (ws entry out : List ℕ) (start at i : ℕ) : Type 0 where
   pub wrote : Wrote entry start (spaced (rowsBelow (bitAt ws) (i * 64))) out at
   pub far : at ≤ start + 320 * i
@@ -197,10 +104,6 @@ module _ (ws entry out : List ℕ) (start at i : ℕ) (g : Worded ws entry out s
   worded-end e = (rw e (g .wrote), omega (arith, g .far))
 
 -- ---- the whole answer
-
-count-rows : (ws : List ℕ) → countOf ws ≡ length (rowsOf ws)
-unfolding countOf rowsOf
-count-rows ws = sym (length-rows (bitAt ws) (length ws * 64))
 
 pub query-rows : (ws d e g : List ℕ) (flips due n j : ℕ) (t : Bool) (m r : ℕ) → due ≡ cond t 1 0 → n ≡ j → j ≡ countOf ws
     → Answered d (ok (flips ∷ due ∷ n ∷ [])) e m 35 → (Wrote e m (spaced (rowsOf ws)) g r) × (r ≤ m + 320 * length ws)

@@ -4,9 +4,8 @@ use mathlib.Core.List.{List, [], _∷_, _++_}
 use mathlib.Core.Option.{none}
 use Prim.Native.Nat.{ℕ, suc, _+_, _-_, _*_, _/_, _%_, _^_, _<_, _≤_}
 use native.Mathlib.Omega.{arith}
-use lib.ListN.{length, getD, set, length-append}
-use lib.Seq.{sets}
-use Rattle.bits.proofs.TabLaws.{length-tab, getD-tab}
+use lib.ListN.{length, getD, length-append}
+use Rattle.bits.proofs.TabLaws.{length-tab, getD-tab, sets-append}
 use Rattle.rules.specs.Calls.{Answer, refused, ok, value}
 use Rattle.text.specs.Bytes.{bytes}
 use Rattle.text.specs.Split.{newline}
@@ -16,10 +15,6 @@ use Rattle.writing.proofs.ShowLaws.{decimal-digit, decimal-2, decimal-3
 use Rattle.writing.proofs.ShowLaws.{spaced-one, ok-append}
 
 -- ---- one after another
-
-pub sets-append : (a b l : List ℕ) (i : ℕ) → sets l i (a ++ b) ≡ sets (sets l i a) (i + length a) b
-sets-append [] b l i = let e : i + 0 ≡ i = omega arith in rw e
-sets-append (x ∷ a) b l i = let e : i + suc (length a) ≡ suc i + length a = omega arith in rw e (sets-append a b (set l i x) (suc i))
 
 pub wrote-then : (d a e b f : List ℕ) (at m n : ℕ) → Wrote d at a e m → Wrote e m b f n → Wrote d at (a ++ b) f n
 wrote-then d a e b f at m n u v =

@@ -1,13 +1,11 @@
 -- Bytes written into lent bytes from a place on, and the digits that are written at once.
 use mathlib.Core.Path.{_≡_}
 use mathlib.Core.Bool.{cond}
-use mathlib.Core.List.{List, [], _∷_, _++_, map}
+use mathlib.Core.List.{List, [], _∷_, _++_}
 use Prim.Native.Nat.{ℕ, _+_, _/_, _%_, _≤_}
 use lib.Dec.{eqb}
 use lib.ListN.{length}
 use lib.Seq.{sets}
-use Rattle.bits.specs.Bit.{bit}
-use Rattle.bits.specs.Rows.{rowsBelow}
 use Rattle.bits.specs.Tab.{tab}
 use Rattle.rules.specs.Calls.{Answer}
 use Rattle.text.specs.Split.{space}
@@ -42,7 +40,3 @@ pairs = tab pairByte 200
 -- a number after a space
 abbrev pub fieldOf : ℕ → List ℕ
 fieldOf n = space ∷ decimal n
-
--- the rows of a word whose first row is `base`
-unfoldable pub wordRows : ℕ → ℕ → List ℕ
-wordRows w base = map (λ k. base + k) (rowsBelow (bit w) 64)

@@ -6,10 +6,10 @@ ghost use mathlib.Core.Path.{_≡_};
 ghost use mathlib.Core.Bool.{cond};
 ghost use Prim.Native.Nat.{_+_, _*_, _<_, _≤_};
 ghost use lib.ListN.{length};
-ghost use Rattle.bits.specs.Rows.{rowsOf};
+ghost use Rattle.bits.specs.Rows.{rowsOf, wordRows};
 ghost use Rattle.rules.specs.Calls.{listed};
 ghost use Rattle.text.specs.Show.{spaced};
-ghost use Rattle.writing.specs.Wrote.{Wrote, Answered, fieldOf, wordRows, pairs};
+ghost use Rattle.writing.specs.Wrote.{Wrote, Answered, fieldOf, pairs};
 
 // A space and a row.
 fn put_row(out: &mut [u8], at: usize, x: u32, text: &[u8]) -> usize

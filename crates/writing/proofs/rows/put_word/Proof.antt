@@ -2,7 +2,7 @@
 use native.Mathlib.Omega.{arith}
 use borrow.Author.Needs.{needs}
 use lib.ListN.{length}
-use Rattle.writing.specs.Wrote.{wordRows}
+use Rattle.bits.specs.Rows.{wordRows}
 use Rattle.writing.proofs.RowLaws.{Rowing, rowing-none, rowing-step, rowing-end, row-lt, row-room, row-less}
 use Rattle.writing.proofs.rows.put_word.Statement.{statement}
 use Rattle.writing.proofs.rows.put_word.Tie as tie
