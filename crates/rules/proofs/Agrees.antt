@@ -37,8 +37,8 @@ use Rattle.rules.proofs.PlainLaws.{touched, touched-snoc, untouched-cel
 more : List Event → Event → List Event
 more h e = h ++ (e ∷ [])
 
-each : (h : List Event) (e : Event) (P : ℕ → Type 0) → ((k : ℕ) → k ≤ length h → P k) → P (suc (length h)) → (k : ℕ) → k ≤ length (more h e)
-    → P k
+each : (h : List Event) (e : Event) (P : ℕ → Type 0) → ((k : ℕ) → k ≤ length h → P k) → P (suc (length h)) → (k : ℕ)
+    → k ≤ length (more h e) → P k
 unfolding more
 each h e P old new = up-to-next P old new (length-snoc h e)
 
@@ -89,8 +89,8 @@ module _ (C : ℕ) (col : Column) (rows : ℕ) (log : Log) (h : List Event) (c :
         → names (changesOf (above (grown log x) k)) r ≡ touched (drop k (more h e)) r
     unfolding more
     grown-seen r =
-        each h e (λ k. r < length (columnAfter col (more h e) k)
-        → names (changesOf (above (grown log x) k)) r ≡ touched (drop k (more h e)) r) old
+        each h e
+        (λ k. r < length (columnAfter col (more h e) k) → names (changesOf (above (grown log x) k)) r ≡ touched (drop k (more h e)) r) old
         (λ q. rw (← (c .pace), above-new log x, c .pace, drop-snoc h e))
       where
         old : (k : ℕ) → k ≤ length h → r < length (columnAfter col (more h e) k)
@@ -172,8 +172,7 @@ module _ (log : Log) (ch : Chain) (v : ℕ) (col : Column) (h : List Event) (a :
       rw (
         moves-at s r l,
         List·getD-eq-default (columnAfter col h s) none o,
-        List·getD-eq-default
-            (columnAfter col h (lastTidy v (take s h))) none p,
+        List·getD-eq-default (columnAfter col h (lastTidy v (take s h))) none p,
       )
 
   module _ (s : ℕ) (l : s ≤ length h) (fit : length (columnAfter col h s) ≤ maxRows) where
@@ -229,8 +228,8 @@ module _ (log : Log) (ch : Chain) (v : ℕ) (col : Column) (h : List Event) (a :
           → xorb (versionAt ch′ k .vector r) (bit (flipSet (grown log x) k r) v) ≡ holds (cell (columnAfter col (more h e) k) r) v
       unfolding more
       next-right r =
-          each h e (λ k. xorb (versionAt ch′ k .vector r) (bit (flipSet (grown log x) k r) v)
-          ≡ holds (cell (columnAfter col (more h e) k) r) v)
+          each h e
+          (λ k. xorb (versionAt ch′ k .vector r) (bit (flipSet (grown log x) k r) v) ≡ holds (cell (columnAfter col (more h e) k) r) v)
           (λ k l. rw (older k l, old-set k r l, column-old col h e k l) (a .right k r l))
           (rw (now, column-new col h e, ← p) (made r))
 

@@ -11,26 +11,27 @@ use borrow.Author.Tests.{eqb-true, eq-eqb, lt-leb, leb-false}
 use lib.Dec.{leb, ltb}
 use lib.ListN.{length, drop, List·getD-eq-default}
 use lib.Seq.{getD-set-same}
+use Rattle.bits.proofs.AnyLaws.{any-at, any-of}
 use Rattle.bits.proofs.Cases.{lt-cases}
 use Rattle.bits.proofs.RowLaws.{rows-mem, mem-rows, rows-ascend}
 use Rattle.rules.specs.Limits.{maxRows, maxSessions, maxRecords, maxChanges}
 use Rattle.rules.specs.State.{Entry, Session, free, opened, State, chain, session, isFree, startOf, rowsOf, listOf, Change}
 use Rattle.rules.specs.Log.{stampOf, above, changesOf, names, allChanges}
-use Rattle.rules.specs.Versions.{queriedRows, readAt}
+use Rattle.rules.specs.Versions.{queried, queriedRows, spanned, spannedRows, readAt}
 use Rattle.rules.specs.Lists.{lists, inserts}
 use Rattle.rules.specs.Commit.{conflicts}
 use Rattle.rules.specs.Tidy.{moved, moves, tidyChange, tidyChanges}
-use Rattle.rules.specs.Calls.{Column, cell, holds, Call, create, begin, query, read, update, delete, insert, commit, tidy, abort}
-use Rattle.rules.specs.Calls.{Answer, refused, ok}
+use Rattle.rules.specs.Calls.{Column, cell, holds, Call, create, begin, query, span, read, update, delete, insert, commit}
+use Rattle.rules.specs.Calls.{tidy, abort, Answer, refused, ok}
 use Rattle.rules.specs.Refusals.{isEmpty, badColumn, tests, refusal, AllFail}
 use Rattle.rules.specs.Step.{beginning, querying, created, relisted, effect, unless, step, transcript}
 use Rattle.rules.specs.Plain.{Wish, hold, grow, isWished, countWished, Visitor, away, sitting, wishesOf, Observer, visitor}
 use Rattle.rules.specs.Plain.{columnAt, holding, movedBy, columnNow, started, accepts, watches}
-use Rattle.rules.specs.Demand.{Numbers, RightQuery, Reads, beginsAt, Overtaken, tidiesAt, Right, AllRight}
+use Rattle.rules.specs.Demand.{Numbers, RightQuery, HoldsOneOf, Spans, Reads, beginsAt, Overtaken, tidiesAt, Right, AllRight}
 use Rattle.rules.specs.Moved.{MovesRows}
 use Rattle.rules.proofs.Small.{clash}
 use Rattle.rules.proofs.PlainLaws.{touched, touched-means, Same, same-lists}
-use Rattle.rules.proofs.Agrees.{columns-fit, Agrees, queried-rows, flip-count, moves-none, read-is}
+use Rattle.rules.proofs.Agrees.{columns-fit, Agrees, queried-is, queried-rows, flip-count, moves-none, read-is}
 use Rattle.rules.proofs.Committing.{conflicts-means, fits-row}
 use Rattle.rules.proofs.Run.{Seated, Sits, Inv, moved-is, start-inv, accepted, step-keeps}
 use Rattle.rules.proofs.Tests.{all-fail}
@@ -41,19 +42,20 @@ holds-means : (o : Option ℕ) (v : ℕ) → holds o v ≡ true → o ≡ some v
 holds-means none v e = absurd (false≢true e)
 holds-means (some a) v e = ap some (eqb-true a v e)
 
-holding-exactly : (col : Column) (v r : ℕ) → List·Memᴰ r (holding col v) ↔ (cell col r ≡ some v)
-holding-exactly col v r = (
-  λ m. holds-means (cell col r) v (rows-mem has (length col) r m .1),
-  λ e. mem-rows has (length col) r (low (lt-cases r (length col)) e)
-      (rw e (eq-eqb v v refl)),
-)
+-- a row that holds something is in the column
+cell-low : (col : Column) (v r : ℕ) → cell col r ≡ some v → r < length col
+cell-low col v r e = go (lt-cases r (length col))
   where
-    has : ℕ → Bool
-    has q = holds (cell col q) v
+    go : (r < length col) ⊎ (length col ≤ r) → r < length col
+    go (inl l) = l
+    go (inr l) = absurd (Option·none-ne-some v (sym (List·getD-eq-default col none l) ∙ e))
 
-    low : (r < length col) ⊎ (length col ≤ r) → cell col r ≡ some v → r < length col
-    low (inl l) e = l
-    low (inr l) e = absurd (Option·none-ne-some v (sym (List·getD-eq-default col none l) ∙ e))
+holding-exactly : (col : Column) (v r : ℕ) → List·Memᴰ r (holding col v) ↔ (cell col r ≡ some v)
+holding-exactly col v r =
+    let has : ℕ → Bool = λ q. holds (cell col q) v in (
+      λ m. holds-means (cell col r) v (rows-mem has (length col) r m .1),
+      λ e. mem-rows has (length col) r (cell-low col v r e) (rw e (eq-eqb v v refl)),
+    )
 
 module _ (st : State) (o : Observer) (inv : Inv st o) where
   -- a session and its visitor now
@@ -74,7 +76,8 @@ module _ (st : State) (o : Observer) (inv : Inv st o) where
         rows-are = rows;
         exactly = λ r. rw rows (holding-exactly (columnAt o s) v r);
         ascending = rw rows (rows-ascend (λ r. holds (cell (columnAt o s) r) v) (length (columnAt o s)));
-        flips-are = flip-count (st .log) (chain (st .chains) v) v (o .column) (o .events) a s (q .old) fit
+        flips-are =
+            flip-count (st .log) (chain (st .chains) v) v (o .column) (o .events) a s (q .old) fit
             ∙ ap length (moved-is st o inv s v (q .old) l);
         due-is = refl;
       }
@@ -87,6 +90,46 @@ module _ (st : State) (o : Observer) (inv : Inv st o) where
 
       rows : queriedRows (st .log) (chain (st .chains) v) s v ≡ holding (columnAt o s) v
       rows = queried-rows (st .log) (chain (st .chains) v) v (o .column) (o .events) a s (q .old) fit
+
+  -- K1: a row is in the span of some values at s exactly if it holds one of them after the first s events
+  module _ (s a b : ℕ) (old : s ≤ length (o .events)) (low : b < st .values) (r : ℕ) where
+    abbrev has : ℕ → Bool
+    has v = queried (st .log) (chain (st .chains) v) s v r
+
+    has-is : (v : ℕ) → v < st .values → has v ≡ holds (cell (columnAt o s) r) v
+    has-is v l = queried-is (st .log) (chain (st .chains) v) v (o .column) (o .events) (inv .core .agrees v l) s r old
+
+    spanned-exactly : List·Memᴰ r (spannedRows (st .log) (st .chains) s a b) ↔ HoldsOneOf (columnAt o s) a b r
+    unfolding spanned
+    spanned-exactly = (
+      λ m. let f = any-at has a (suc b) (rows-mem (spanned (st .log) (st .chains) s a b) maxRows r m .1) in (
+        f .0,
+        f .1,
+        omega (arith, f .2),
+        holds-means (cell (columnAt o s) r) (f .0) (sym (has-is (f .0) (omega (arith, f .2, low))) ∙ f .3),
+      ),
+      λ h. mem-rows (spanned (st .log) (st .chains) s a b) maxRows r
+          (omega (
+            arith,
+            cell-low (columnAt o s) (h .0) r (h .3),
+            columns-fit (st .values) (o .column) (st .rows) (st .log) (o .events) (inv .core .logged) s,
+          ))
+          (any-of has a (suc b) (h .0) (h .1) (omega (arith, h .2))
+          (has-is (h .0) (omega (arith, h .2, low)) ∙ rw (h .3) (eq-eqb (h .0) (h .0) refl))),
+    )
+
+  pub span-spans : (i a b : ℕ) (x : Session) (y : Visitor) → SitsNow x y → visitor o i ≡ y → isFree x ≡ false → b < st .values
+      → Spans o i a b (spannedRows (st .log) (st .chains) (startOf x) a b)
+  span-spans i a b free y q e f l = absurd (true≢false f)
+  span-spans i a b (opened s n es) away q e f l = absurd q
+  span-spans i a b (opened s n es) (sitting k ws) q e f l =
+      record {
+        since = s;
+        own = ws;
+        is-open = e ∙ ap (λ (m : ℕ). sitting m ws) (q .at);
+        exactly = spanned-exactly s a b (q .old) l;
+        ascending = rows-ascend (spanned (st .log) (st .chains) s a b) maxRows;
+      }
 
   pub read-reads : (i r : ℕ) (x : Session) (y : Visitor) → SitsNow x y → visitor o i ≡ y → isFree x ≡ false → r < rowsOf x
       → Reads o i r (readAt (st .values) (st .log) (st .chains) (startOf x) r)
@@ -210,8 +253,8 @@ module _ (st : State) (o : Observer) (inv : Inv st o) where
   commit-numbers : (i : ℕ) → AllFail (tests st (commit i))
       → Numbers (suc (length (o .events)) ∷ length (columnNow (accepts o (commit i))) ∷ []) (effect st (commit i) .1)
   unfolding effect watches
-  commit-numbers i p = ap₂ (λ (a b : ℕ). a ∷ b ∷ []) (ap suc (inv .core .logged .pace))
-      (accepted st o inv (commit i) p .core .logged .rows-now)
+  commit-numbers i p =
+      ap₂ (λ (a b : ℕ). a ∷ b ∷ []) (ap suc (inv .core .logged .pace)) (accepted st o inv (commit i) p .core .logged .rows-now)
 
   -- an open session with something listed is refused by 12 exactly if the rules see a conflict
   commit-answer : (i : ℕ) → leb maxSessions i ≡ false → isFree (session st i) ≡ false → isEmpty (listOf (session st i)) ≡ false
@@ -243,6 +286,9 @@ module _ (st : State) (o : Observer) (inv : Inv st o) where
   right (query i v t n) =
       judged (query i v t n) (Right o (query i v t n)) (λ m. tt)
       (λ p. query-lists st o inv i v t (session st i) (visitor o i) (inv .sat i) refl (p .1 .0) (leb-false _ _ (p .1 .1 .0)))
+  right (span i a b n) =
+      judged (span i a b n) (Right o (span i a b n)) (λ m. tt)
+      (λ p. span-spans st o inv i a b (session st i) (visitor o i) (inv .sat i) refl (p .1 .0) (leb-false _ _ (p .1 .1 .1 .0)))
   right (read i r) =
       judged (read i r) (Right o (read i r)) (λ n. tt)
       (λ p. read-reads st o inv i r (session st i) (visitor o i) (inv .sat i) refl (p .1 .0) (leb-false _ _ (p .1 .1 .0)))

@@ -4,17 +4,18 @@ use mathlib.Core.List.{List, [], _∷_}
 use Prim.Native.Nat.{ℕ}
 use Rattle.bits.specs.Bit.{bit, setBit, flipBit, clearBit}
 use Rattle.bits.specs.Words.{bitAt}
+use Rattle.bits.specs.Any.{anyBelow, anyFrom}
 use Rattle.bits.specs.Tab.{tab}
 use Rattle.bits.specs.Rows.{rowsBelow, countBelow, smallestBelow}
 use Rattle.rules.specs.Limits.{maxValues, maxRows, maxSlots, maxRecords, maxChanges, maxSessions, maxEntries, vectorWords}
 use Rattle.rules.specs.Log.{stampOf, upTo, above, between, grown, allChanges, flipSet}
-use Rattle.rules.specs.Versions.{versionAt, flipped, queried, readAt}
+use Rattle.rules.specs.Versions.{versionAt, flipped, queried, spanned, readAt}
 use Rattle.rules.specs.Commit.{toggled, commitChanges}
 use Rattle.rules.specs.Tidy.{moved, tidyChanges}
 use Rattle.rules.specs.Refusals.{badColumn, tests}
 use Rattle.rules.specs.Step.{created, effect, step, run}
 use Rattle.rules.specs.Examples.{firstColumn, start, printed, printed₆, printed₈, printed₉, emptying, returning, replacing}
-use Rattle.rules.specs.Examples.{overtaking, setOf, rowWith, Marked, Caught}
+use Rattle.rules.specs.Examples.{overtaking, spanning, setOf, rowWith, Marked, Caught}
 
 -- the sets of the examples, as the numbers that the rules compute
 sets : (setOf [] ≡ 0) × (setOf (1 ∷ []) ≡ 2) × (setOf (2 ∷ []) ≡ 4) × (setOf (1 ∷ 3 ∷ []) ≡ 10) × (setOf (2 ∷ 3 ∷ []) ≡ 12)
@@ -64,7 +65,16 @@ marked =
     }
 
 pub caught : Caught
-unfolding firstColumn start emptying returning replacing overtaking created effect step run badColumn tests maxValues maxRows maxSlots
-    maxRecords maxChanges maxSessions maxEntries vectorWords stampOf upTo above between grown allChanges flipSet versionAt flipped queried
-    readAt toggled commitChanges moved tidyChanges bit flipBit clearBit tab rowsBelow countBelow smallestBelow
-caught = record { emptied = refl; emptied-records = records-emptied _ refl; returned = refl; replaced = refl; overtaken = refl }
+unfolding firstColumn start emptying returning replacing overtaking spanning created effect step run badColumn tests maxValues maxRows
+    maxSlots maxRecords maxChanges maxSessions maxEntries vectorWords stampOf upTo above between grown allChanges flipSet versionAt
+    flipped queried spanned readAt toggled commitChanges moved tidyChanges bit flipBit clearBit tab anyFrom anyBelow rowsBelow
+    countBelow smallestBelow
+caught = record {
+  emptied = refl;
+  emptied-records = records-emptied _ refl;
+  returned = refl;
+  replaced = refl;
+  overtaken = refl;
+  spanned-rows = refl;
+  listed-once = refl;
+}

@@ -63,11 +63,8 @@ RecordsFit C n (x ∷ xs) = ChangesFit C n (x .changes) × RecordsFit C n xs
 
 all-fit : (C n m : ℕ) (log : Log) → LogFits C n log m → RecordsFit C m log
 all-fit C n m [] h = tt
-all-fit C n m (x ∷ xs) h = (
-  changes-more C (x .rows) m (x .changes) (count-first C (x .rows) m xs (h .2)) (h .1),
-  all-fit C (x .rows) m xs
-      (h .2),
-)
+all-fit C n m (x ∷ xs) h =
+    (changes-more C (x .rows) m (x .changes) (count-first C (x .rows) m xs (h .2)) (h .1), all-fit C (x .rows) m xs (h .2))
 
 some-fit : (C n : ℕ) (xs : List Record) → RecordsFit C n xs → ChangesFit C n (changesOf xs)
 some-fit C n [] h = tt

@@ -8,6 +8,7 @@ pub mod Committing
 pub mod Agrees
 pub mod Run
 pub mod EveryRun
+pub mod Spans
 pub mod Tests
 pub mod Numbers
 pub mod Shapes

@@ -8,8 +8,8 @@ use mathlib.Core.Logic.{_⊎_, inl, inr, ⊎-elim, _↔_}
 use Prim.Native.Nat.{ℕ, _≤_, _<_}
 use native.Mathlib.Omega.{arith}
 use Rattle.rules.specs.State.{State, Session, free, opened, session}
-use Rattle.rules.specs.Calls.{Call, create, begin, query, read, update, delete, insert, commit, tidy, abort, Answer, refused, ok}
-use Rattle.rules.specs.Calls.{value, listed}
+use Rattle.rules.specs.Calls.{Call, create, begin, query, span, read, update, delete, insert, commit, tidy, abort, Answer}
+use Rattle.rules.specs.Calls.{refused, ok, value, listed, found}
 use Rattle.rules.specs.Refusals.{Test, firstOf, First, tests, refusal, AllFail}
 use Rattle.rules.specs.Step.{beginning, effect, unless, step}
 use Rattle.rules.proofs.Tests.{all-fail, fail-all}
@@ -37,17 +37,18 @@ past (t ∷ before) after n h = rw (h .0) (past before after n (h .1))
 pub number-first : (ts : List Test) (n : ℕ) → First ts n → firstOf ts ≡ some n
 number-first ts n f = ap firstOf (f .split) ∙ past (f .before) (f .after) n (f .fail)
 
--- each number of the table is larger than the one before it, and the first than n
+-- no number of the table is below the one before it, and the first is at least n
 abbrev pub Rising : ℕ → List Test → Type 0
 Rising n [] = Unit {0}
-Rising n (t ∷ ts) = (n < t .1) × Rising (t .1) ts
+Rising n (t ∷ ts) = (n ≤ t .1) × Rising (t .1) ts
 
--- the rules' numbers rise from 3 on
-pub tests-rise : (st : State) (c : Call) → Rising 2 (tests st c)
+-- the rules' numbers do not fall, from 3 on
+pub tests-rise : (st : State) (c : Call) → Rising 3 (tests st c)
 unfolding tests
 tests-rise st (create C col) = omega arith
 tests-rise st (begin i) = omega arith
 tests-rise st (query i v t n) = omega arith
+tests-rise st (span i a b n) = omega arith
 tests-rise st (read i r) = omega arith
 tests-rise st (update i r v) = omega arith
 tests-rise st (delete i r) = omega arith
@@ -56,15 +57,15 @@ tests-rise st (commit i) = omega arith
 tests-rise st (tidy i v) = omega arith
 tests-rise st (abort i) = omega arith
 
-rise-low : (ts : List Test) (n : ℕ) → Rising n ts → (t : Test) → List·Memᴰ t ts → n < t .1
+rise-low : (ts : List Test) (n : ℕ) → Rising n ts → (t : Test) → List·Memᴰ t ts → n ≤ t .1
 rise-low [] n h t m = absurd (List·Memᴰ·not-nil m)
 rise-low (x ∷ ts) n h t m =
     ⊎-elim (λ (e : t ≡ x). rw e (h .0)) (λ (k : List·Memᴰ t ts). omega (arith, h .0, rise-low ts (x .1) (h .1) t k))
     (List·Memᴰ·cases-cons m)
 
 -- in such a table a number is given whenever a test holds, and none that applies is smaller
-pub least : (ts : List Test) (m : ℕ) → Rising m ts → (t : Test) → List·Memᴰ t ts → t .0 ≡ true → (n : ℕ) × (firstOf ts ≡ some n)
-    × (n ≤ t .1)
+pub least : (ts : List Test) (m : ℕ) → Rising m ts → (t : Test) → List·Memᴰ t ts → t .0 ≡ true
+    → (n : ℕ) × (firstOf ts ≡ some n) × (n ≤ t .1)
 least [] m h t k p = absurd (List·Memᴰ·not-nil k)
 least (x ∷ ts) m h t k p = go (x .0) refl (List·Memᴰ·cases-cons k) (λ l. least ts (x .1) (h .1) t l p)
   where
@@ -75,20 +76,20 @@ least (x ∷ ts) m h t k p = go (x .0) refl (List·Memᴰ·cases-cons k) (λ l. 
     go false a (inl l) ih = absurd (false≢true (sym a ∙ (ap (λ (y : Test). y .0) (sym l) ∙ p)))
     go false a (inr l) ih = ih l
 
--- and the number given is above m
-pub first-above : (ts : List Test) (m : ℕ) → Rising m ts → (n : ℕ) → firstOf ts ≡ some n → m < n
+-- and the number given is at least m
+pub first-above : (ts : List Test) (m : ℕ) → Rising m ts → (n : ℕ) → firstOf ts ≡ some n → m ≤ n
 first-above [] m h n e = absurd (Option·none-ne-some n e)
 first-above (x ∷ ts) m h n e = go (x .0) e (first-above ts (x .1) (h .1) n)
   where
-    go : (b : Bool) → cond b (some (x .1)) (firstOf ts) ≡ some n → (firstOf ts ≡ some n → x .1 < n) → m < n
+    go : (b : Bool) → cond b (some (x .1)) (firstOf ts) ≡ some n → (firstOf ts ≡ some n → x .1 ≤ n) → m ≤ n
     go true q ih = let z : x .1 ≡ n = cc in omega (arith, h .0)
     go false q ih = omega (arith, h .0, ih q)
 
 -- "The smallest number that applies is given.": no test that holds has a smaller one
-pub smallest-number : (st : State) (c : Call) (n : ℕ) → refusal st c ≡ some n → (t : Test) → List·Memᴰ t (tests st c) → t .0 ≡ true
-    → n ≤ t .1
+pub smallest-number : (st : State) (c : Call) (n : ℕ) → refusal st c ≡ some n → (t : Test) → List·Memᴰ t (tests st c)
+    → t .0 ≡ true → n ≤ t .1
 smallest-number st c n e t k p =
-    let l = least (tests st c) 2 (tests-rise st c) t k p in
+    let l = least (tests st c) 3 (tests-rise st c) t k p in
     let z : l .0 ≡ n = cc in
     omega (arith, l .2)
 
@@ -107,6 +108,7 @@ isAccepted (refused n) = false
 isAccepted (ok ns) = true
 isAccepted (value x) = true
 isAccepted (listed n d rs) = true
+isAccepted (found rs) = true
 
 begin-accepts : (st : State) (i : ℕ) (x : Session) → isAccepted (beginning st i x .1) ≡ true
 begin-accepts st i free = refl
@@ -117,6 +119,7 @@ unfolding effect
 effect-accepts st (create C col) = refl
 effect-accepts st (begin i) = begin-accepts st i (session st i)
 effect-accepts st (query i v t n) = refl
+effect-accepts st (span i a b n) = refl
 effect-accepts st (read i r) = refl
 effect-accepts st (update i r v) = refl
 effect-accepts st (delete i r) = refl

@@ -96,11 +96,8 @@ touched-snoc (x ∷ h) e r = rw (touched-snoc h e r) (sym (or-assoc (touches x r
 -- so there is an event that touches it
 pub touched-means : (h : List Event) (r : ℕ) → (touched h r ≡ true) ↔ ((e : Event) × List·Memᴰ e h × (touches e r ≡ true))
 touched-means [] r = (λ e. absurd (false≢true e), λ p. absurd (List·Memᴰ·not-nil (p .1)))
-touched-means (x ∷ h) r = (
-  to (bool-cases (touches x r)) (touched-means h r .0),
-  λ p. from p (List·Memᴰ·cases-cons (p .1))
-      (touched-means h r .1),
-)
+touched-means (x ∷ h) r =
+    (to (bool-cases (touches x r)) (touched-means h r .0), λ p. from p (List·Memᴰ·cases-cons (p .1)) (touched-means h r .1))
   where
     to : (touches x r ≡ true) ⊎ (touches x r ≡ false) → (touched h r ≡ true → (e : Event) × List·Memᴰ e h × (touches e r ≡ true))
         → (touches x r || touched h r) ≡ true → (e : Event) × List·Memᴰ e (x ∷ h) × (touches e r ≡ true)
@@ -170,8 +167,7 @@ cell-last col (grow v ∷ ws) r l = cell-last col ws r l
 cell-last col (hold q t ∷ ws) r l =
     rw (
       cell-last (set col q t) ws r (rw (length-set col q t) l),
-      standing-or (lastWish ws r) (cond (eqb q r) (some t) none)
-          (cell col r),
+      standing-or (lastWish ws r) (cond (eqb q r) (some t) none) (cell col r),
       go (eq-cases q r),
     )
   where

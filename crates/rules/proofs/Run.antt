@@ -12,7 +12,7 @@ use Rattle.rules.specs.State.{Log, Chain, Entry, Session, free, opened, 
 use Rattle.rules.specs.Lists.{inserts}
 use Rattle.rules.specs.Commit.{conflicts, commitChanges}
 use Rattle.rules.specs.Tidy.{moved, stale}
-use Rattle.rules.specs.Calls.{Column, Call, create, begin, query, read, update, delete, insert, commit, tidy, abort}
+use Rattle.rules.specs.Calls.{Column, Call, create, begin, query, span, read, update, delete, insert, commit, tidy, abort}
 use Rattle.rules.specs.Refusals.{badColumn, tests, refusal, AllFail}
 use Rattle.rules.specs.Step.{created, seated, beginning, relisted, committing, tidying, effect, unless, step}
 use Rattle.rules.specs.Plain.{Wish, hold, grow, Event, committed, tidied, Visitor, away, sitting, Observer, visitor, movedBy, sits}
@@ -139,8 +139,7 @@ module _ (st : State) (o : Observer) (inv : Inv st o) where
         log = log;
         chains = chains;
         slots = slots;
-        sessions = st
-            .sessions;
+        sessions = st .sessions;
       })
       (record { column = o .column; events = o .events ++ (e ∷ []); visitors = o .visitors })
   event-inv rows log chains slots e c = record {
@@ -189,6 +188,7 @@ module _ (st : State) (o : Observer) (inv : Inv st o) where
   accepted (create C col) p = start-inv C col (p .0)
   accepted (begin i) p = rw (begin-watched i (session st i)) (begin-inv st o inv i (session st i) (visitor o i) (inv .sat i))
   accepted (query i v t n) p = inv
+  accepted (span i a b n) p = inv
   accepted (read i r) p = inv
   accepted (update i r v) p =
       let x = session st i in

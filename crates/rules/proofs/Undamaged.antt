@@ -21,7 +21,7 @@ use Rattle.rules.specs.Versions.{readAt}
 use Rattle.rules.specs.Lists.{inserts}
 use Rattle.rules.specs.Commit.{newSet, rowChanges, insertChanges, commitChanges}
 use Rattle.rules.specs.Tidy.{moves, moved, tidyChange, tidyChanges}
-use Rattle.rules.specs.Calls.{Column, Call, create, begin, query, read, update, delete, insert, commit, tidy, abort}
+use Rattle.rules.specs.Calls.{Column, Call, create, begin, query, span, read, update, delete, insert, commit, tidy, abort}
 use Rattle.rules.specs.Refusals.{badColumn, tests, refusal, AllFail}
 use Rattle.rules.specs.Step.{firstChain, created, seated, beginning, relisted, rowsWith, commitRecord, committing, tidyRecord}
 use Rattle.rules.specs.Step.{tidyVersion, tidying, effect, unless, step, run}
@@ -206,6 +206,7 @@ module _ (st : State) (w : Undamaged st) where
   effect-undamaged (create C col) p = created-undamaged C col (p .0)
   effect-undamaged (begin i) p = begin-undamaged st w i (session st i)
   effect-undamaged (query i v t n) p = w
+  effect-undamaged (span i a b n) p = w
   effect-undamaged (read i r) p = w
   effect-undamaged (update i r v) p =
       let x = session st i in

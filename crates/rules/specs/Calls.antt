@@ -1,4 +1,4 @@
--- The ten calls and their answers.
+-- The calls and their answers: document 01's ten, and K1's span.
 use mathlib.Core.Bool.{Bool, false}
 use mathlib.Core.Option.{Option, none, some}
 use mathlib.Core.List.{List}
@@ -26,6 +26,8 @@ pub data Call : Type 0 where
   begin : ℕ → Call
   -- session, value, the threshold of `due`, the words of the scratch
   query : ℕ → ℕ → ℕ → ℕ → Call
+  -- session, first value, last value, the cells of the list
+  span : ℕ → ℕ → ℕ → ℕ → Call
   read : ℕ → ℕ → Call
   update : ℕ → ℕ → ℕ → Call
   delete : ℕ → ℕ → Call
@@ -43,3 +45,5 @@ pub data Answer : Type 0 where
   value : Option ℕ → Answer
   -- query: the flip count, whether a tidy is due, the rows ascending
   listed : ℕ → Bool → List ℕ → Answer
+  -- span: the rows, ascending
+  found : List ℕ → Answer

@@ -4,12 +4,12 @@ use mathlib.Core.Bool.{Bool, true}
 use mathlib.Core.Option.{Option, some}
 use mathlib.Core.List.{List, [], _∷_, List·Memᴰ}
 use mathlib.Core.Logic.{_↔_}
-use Prim.Native.Nat.{ℕ, suc, _<_}
+use Prim.Native.Nat.{ℕ, suc, _≤_, _<_}
 use lib.Dec.{ltb}
 use lib.ListN.{length, drop}
 use Rattle.bits.specs.Rows.{Ascending}
-use Rattle.rules.specs.Calls.{cell, Call, create, begin, query, read, update, delete, insert, commit, tidy, abort, Answer}
-use Rattle.rules.specs.Calls.{refused, ok, value, listed}
+use Rattle.rules.specs.Calls.{cell, Call, create, begin, query, span, read, update, delete, insert, commit, tidy, abort, Answer}
+use Rattle.rules.specs.Calls.{Column, refused, ok, value, listed, found}
 use Rattle.rules.specs.Plain.{Wish, Event, Visitor, away, sitting, Observer, visitor, columnAt, columnNow, holding, countWished}
 use Rattle.rules.specs.Plain.{wishesOf, isWished, touches, movedBy, accepts, watches}
 
@@ -19,6 +19,7 @@ Numbers ns (refused n) = Unit {0}
 Numbers ns (ok ms) = ms ≡ ns
 Numbers ns (value x) = ⊥
 Numbers ns (listed n d rs) = ⊥
+Numbers ns (found rs) = ⊥
 
 -- an accepted query of v, its session open since k events: exactly the rows that hold v after replaying the commits among these
 -- events, as a list, row by row and ascending; the flip count is how many rows came to v or left it since its last tidy
@@ -37,6 +38,27 @@ RightQuery o i v t (refused n) = Unit {0}
 RightQuery o i v t (ok ns) = ⊥
 RightQuery o i v t (value x) = ⊥
 RightQuery o i v t (listed n d rs) = Lists o i v t n d rs
+RightQuery o i v t (found rs) = ⊥
+
+-- a row of a column holds one of the values a to b
+abbrev pub HoldsOneOf : Column → ℕ → ℕ → ℕ → Type 0
+HoldsOneOf col a b r = (v : ℕ) × (a ≤ v) × (v ≤ b) × (cell col r ≡ some v)
+
+-- K1: an accepted span of the values a to b, its session open since k events: exactly the rows that hold one of them after replaying
+-- the commits among these events, ascending, so that each is listed once
+pub record Spans (o : Observer) (i a b : ℕ) (rs : List ℕ) : Type 0 where
+  pub since : ℕ
+  pub own : List Wish
+  pub is-open : visitor o i ≡ sitting since own
+  pub exactly : (r : ℕ) → List·Memᴰ r rs ↔ HoldsOneOf (columnAt o since) a b r
+  pub ascending : Ascending rs
+
+abbrev pub RightSpan : Observer → ℕ → ℕ → ℕ → Answer → Type 0
+RightSpan o i a b (refused n) = Unit {0}
+RightSpan o i a b (ok ns) = ⊥
+RightSpan o i a b (value x) = ⊥
+RightSpan o i a b (listed n d rs) = ⊥
+RightSpan o i a b (found rs) = Spans o i a b rs
 
 -- an accepted read of a row: that column's cell
 pub record Reads (o : Observer) (i r : ℕ) (x : Option ℕ) : Type 0 where
@@ -51,6 +73,7 @@ RightRead o i r (refused n) = Unit {0}
 RightRead o i r (ok ns) = ⊥
 RightRead o i r (value x) = Reads o i r x
 RightRead o i r (listed n d rs) = ⊥
+RightRead o i r (found rs) = ⊥
 
 -- begin: the events so far and the length of the column now, or, where the session is open, those of its opening
 abbrev pub beginsAt : Observer → Visitor → List ℕ
@@ -81,6 +104,7 @@ abbrev pub Right : Observer → Call → Answer → Type 0
 Right o (create C col) a = Numbers (length col ∷ []) a
 Right o (begin i) a = Numbers (beginsAt o (visitor o i)) a
 Right o (query i v t n) a = RightQuery o i v t a
+Right o (span i a b n) x = RightSpan o i a b x
 Right o (read i r) a = RightRead o i r a
 Right o (update i r v) a = Numbers (listsThen o i (update i r v)) a
 Right o (delete i r) a = Numbers (listsThen o i (delete i r)) a

@@ -10,10 +10,10 @@ use Rattle.bits.specs.Words.{bitAt}
 use Rattle.bits.specs.Rows.{rowsBelow}
 use Rattle.rules.specs.Limits.{maxRows}
 use Rattle.rules.specs.State.{Change, Record, State, chain}
-use Rattle.rules.specs.Versions.{newest}
-use Rattle.rules.specs.Calls.{Column, Call, create, begin, query, read, update, insert, commit, tidy, abort, Answer}
-use Rattle.rules.specs.Calls.{refused, ok, value, listed}
-use Rattle.rules.specs.Step.{created, step, run}
+use Rattle.rules.specs.Versions.{newest, spannedRows}
+use Rattle.rules.specs.Calls.{Column, Call, create, begin, query, span, read, update, insert, commit, tidy, abort, Answer}
+use Rattle.rules.specs.Calls.{refused, ok, value, listed, found}
+use Rattle.rules.specs.Step.{firstChain, created, step, run}
 
 -- `column 4 1 2 0 1`
 unfoldable pub firstColumn : Column
@@ -63,6 +63,10 @@ replacing = begin 0 ∷ update 0 0 3 ∷ update 0 0 2 ∷ commit 0 ∷ begin 0 �
 -- "a tidy by the same session too": it moves the row that the session has listed
 unfoldable pub overtaking : List Call
 overtaking = begin 0 ∷ update 0 0 3 ∷ commit 0 ∷ begin 0 ∷ update 0 0 2 ∷ tidy 0 3 ∷ commit 0 ∷ []
+
+-- K1: a span of the values 0 and 1, with a list of three cells
+unfoldable pub spanning : List Call
+spanning = begin 0 ∷ span 0 0 1 3 ∷ []
 
 -- the answers of a run, and its last one
 abbrev pub answers : State → List Call → List Answer
@@ -136,3 +140,7 @@ pub record Caught : Type 0 where
   pub replaced : lastAnswer start replacing ≡ value (some 2)
   -- with tidies passed over, the commit would be accepted
   pub overtaken : lastAnswer start overtaking ≡ refused 12
+  -- K1: with the last value left out, rows 0 and 3 would not be listed; with the rows value by value, row 2 would come first
+  pub spanned-rows : lastAnswer start spanning ≡ found (0 ∷ 2 ∷ 3 ∷ [])
+  -- and rows that both values have would be listed twice
+  pub listed-once : spannedRows [] (firstChain firstColumn 1 ∷ firstChain firstColumn 1 ∷ []) 0 0 1 ≡ 0 ∷ 3 ∷ []

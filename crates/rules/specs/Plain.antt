@@ -8,8 +8,8 @@ use lib.Dec.{eqb}
 use lib.ListN.{length, getD, set, take, replicate}
 use Rattle.bits.specs.Bit.{xorb}
 use Rattle.bits.specs.Rows.{rowsBelow}
-use Rattle.rules.specs.Calls.{Column, cell, holds, Call, create, begin, query, read, update, delete, insert, commit, tidy, abort}
-use Rattle.rules.specs.Calls.{Answer, refused, ok, value, listed}
+use Rattle.rules.specs.Calls.{Column, cell, holds, Call, create, begin, query, span, read, update, delete, insert, commit}
+use Rattle.rules.specs.Calls.{tidy, abort, Answer, refused, ok, value, listed, found}
 
 -- what a session asked for: that a row hold a value or be absent, or that a new row hold a value
 pub data Wish : Type 0 where
@@ -87,8 +87,8 @@ isTidyOf v (committed ws) = false
 isTidyOf v (tidied w rs) = eqb w v
 
 abbrev pub lastFrom : ℕ → ℕ → ℕ → List Event → ℕ
-lastFrom v n found [] = found
-lastFrom v n found (e ∷ h) = lastFrom v (suc n) (cond (isTidyOf v e) (suc n) found) h
+lastFrom v n last [] = last
+lastFrom v n last (e ∷ h) = lastFrom v (suc n) (cond (isTidyOf v e) (suc n) last) h
 
 abbrev pub lastTidy : ℕ → List Event → ℕ
 lastTidy v h = lastFrom v 0 0 h
@@ -140,6 +140,7 @@ unfoldable pub accepts : Observer → Call → Observer
 accepts o (create C col) = started col
 accepts o (begin i) = sitsDown o i (visitor o i)
 accepts o (query i v t n) = o
+accepts o (span i a b n) = o
 accepts o (read i r) = o
 accepts o (update i r v) = wishing o i (hold r (some v)) (visitor o i)
 accepts o (delete i r) = wishing o i (hold r none) (visitor o i)
@@ -154,6 +155,7 @@ watches o c (refused n) = o
 watches o c (ok ns) = accepts o c
 watches o c (value v) = accepts o c
 watches o c (listed n d rs) = accepts o c
+watches o c (found rs) = accepts o c
 
 -- the observer after a transcript
 unfoldable pub observes : Observer → List (Call × Answer) → Observer

@@ -9,11 +9,11 @@ use lib.ListN.{length}
 use Rattle.rules.specs.Limits.{maxValues, maxRows, maxSlots, maxRecords, maxChanges, maxSessions, maxEntries, vectorWords}
 use Rattle.rules.specs.State.{State, Session, session, isFree, startOf, rowsOf, listOf, chain, Entry}
 use Rattle.rules.specs.Log.{stampOf, allChanges}
-use Rattle.rules.specs.Versions.{readAt}
+use Rattle.rules.specs.Versions.{readAt, spannedRows}
 use Rattle.rules.specs.Lists.{target, lists, inserts, standing}
 use Rattle.rules.specs.Commit.{conflicts}
 use Rattle.rules.specs.Tidy.{moved, stale}
-use Rattle.rules.specs.Calls.{Column, Call, create, begin, query, read, update, delete, insert, commit, tidy, abort}
+use Rattle.rules.specs.Calls.{Column, Call, create, begin, query, span, read, update, delete, insert, commit, tidy, abort}
 
 -- a refusal's condition, and its number
 abbrev pub Test : Type 0
@@ -130,11 +130,26 @@ changesFull st n = (ltb maxChanges (length (allChanges (st .log)) + n), 17)
 abbrev pub slotsFull : State → Test
 slotsFull st = (leb maxSlots (st .slots), 18)
 
+-- 20: "first value above the last"
+abbrev pub backward : ℕ → ℕ → Test
+backward a b = (ltb b a, 20)
+
+-- the rows of a span in a session
+abbrev pub spannedIn : State → Session → ℕ → ℕ → List ℕ
+spannedIn st x a b = spannedRows (st .log) (st .chains) (startOf x) a b
+
+-- 21: "list shorter than the answer"
+abbrev pub shortList : State → Session → ℕ → ℕ → ℕ → Test
+shortList st x a b n = (ltb n (length (spannedIn st x a b)), 21)
+
 -- the table
 unfoldable pub tests : State → Call → List Test
 tests st (create C col) = (badColumn C col, 3) ∷ []
 tests st (begin i) = noSession i ∷ []
 tests st (query i v t n) = noSession i ∷ notOpen (session st i) ∷ noValue st v ∷ shortScratch n ∷ []
+tests st (span i a b n) =
+    let x = session st i in
+    noSession i ∷ notOpen x ∷ noValue st a ∷ noValue st b ∷ backward a b ∷ shortList st x a b n ∷ []
 tests st (read i r) = noSession i ∷ notOpen (session st i) ∷ noRow (session st i) r ∷ []
 tests st (update i r v) =
     let x = session st i in

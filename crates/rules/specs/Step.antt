@@ -13,9 +13,9 @@ use Rattle.rules.specs.Versions.{queried, queriedRows, flipCount}
 use Rattle.rules.specs.Lists.{put, inserts}
 use Rattle.rules.specs.Commit.{commitChanges}
 use Rattle.rules.specs.Tidy.{moved, tidyChanges}
-use Rattle.rules.specs.Calls.{Column, cell, holds, Call, create, begin, query, read, update, delete, insert, commit, tidy, abort}
-use Rattle.rules.specs.Calls.{Answer, refused, ok, value, listed}
-use Rattle.rules.specs.Refusals.{readIn, refusal}
+use Rattle.rules.specs.Calls.{Column, cell, holds, Call, create, begin, query, span, read, update, delete, insert, commit}
+use Rattle.rules.specs.Calls.{tidy, abort, Answer, refused, ok, value, listed, found}
+use Rattle.rules.specs.Refusals.{readIn, spannedIn, refusal}
 
 -- "It makes slots 0 to C-1 with stamp 0, one per value, no links"
 abbrev pub firstChain : Column → ℕ → Chain
@@ -108,6 +108,7 @@ unfoldable pub effect : State → Call → State × Answer
 effect st (create C col) = (created C col, ok (length col ∷ []))
 effect st (begin i) = beginning st i (session st i)
 effect st (query i v t n) = (st, querying st (startOf (session st i)) v t)
+effect st (span i a b n) = (st, found (spannedIn st (session st i) a b))
 effect st (read i r) = (st, value (readIn st (session st i) r))
 effect st (update i r v) = relisted st i (session st i) (put (listOf (session st i)) r (some v))
 effect st (delete i r) = relisted st i (session st i) (put (listOf (session st i)) r none)

@@ -2,8 +2,9 @@
 use mathlib.Core.Bool.{Bool, false, cond}
 use mathlib.Core.Option.{Option}
 use mathlib.Core.List.{List, [], _∷_}
-use Prim.Native.Nat.{ℕ}
+use Prim.Native.Nat.{ℕ, suc}
 use lib.Dec.{leb}
+use Rattle.bits.specs.Any.{anyFrom}
 use Rattle.bits.specs.Bit.{xorb, bit}
 use Rattle.bits.specs.Rows.{rowsBelow, countBelow, smallestBelow}
 use Rattle.rules.specs.Limits.{maxRows}
@@ -39,6 +40,14 @@ queriedRows log ch s v = rowsBelow (queried log ch s v) maxRows
 -- "The flip count is the number of such rows."
 abbrev pub flipCount : Log → Chain → ℕ → ℕ → ℕ
 flipCount log ch s v = countBelow (flipped log ch s v) maxRows
+
+-- K1: "a query over a span of values, both ends in": row r is in the query of one of the values a to b
+unfoldable pub spanned : Log → List Chain → ℕ → ℕ → ℕ → ℕ → Bool
+spanned log cs s a b r = anyFrom (λ v. queried log (chain cs v) s v r) a (suc b)
+
+-- "the rows of any of them, ascending and once each"
+abbrev pub spannedRows : Log → List Chain → ℕ → ℕ → ℕ → List ℕ
+spannedRows log cs s a b = rowsBelow (spanned log cs s a b) maxRows
 
 -- "the smallest v whose query has the bit; absent if none"
 unfoldable pub readAt : ℕ → Log → List Chain → ℕ → ℕ → Option ℕ
