@@ -3,6 +3,7 @@ pub mod VersionLaws
 pub mod LastLaws
 pub mod QueryLaws
 pub mod ReadLaws
+pub mod SpanLaws
 pub mod Meets
 pub mod Ready
 pub mod Kept

@@ -1,10 +1,11 @@
--- What the cells say is what the rules say, in all undamaged tables: version, flips, query, flip set and read.
+-- What the cells say is what the rules say, in all undamaged tables: version, flips, query, span, flip set and read.
 use mathlib.Core.Path.{_≡_, sym, ap, ap₂, _∙_}
 use mathlib.Core.Bool.{Bool, true, cond}
 use mathlib.Core.List.{List}
-use Prim.Native.Nat.{ℕ, _≤_, _<_}
+use Prim.Native.Nat.{ℕ, suc, _≤_, _<_}
 use native.Mathlib.Omega.{arith}
 use lib.Dec.{eqb}
+use Rattle.bits.proofs.AnyLaws.{any-ext}
 use Rattle.bits.specs.Bit.{xorb, bit}
 use Rattle.bits.specs.Rows.{rowsOf}
 use Rattle.bits.proofs.RowLaws.{rows-ext, count-ext, smallest-ext}
@@ -15,7 +16,7 @@ use Rattle.bits.specs.Words.{bitAt}
 use Rattle.rules.specs.Limits.{maxRows}
 use Rattle.rules.specs.State.{Change, Version, Chain, chain}
 use Rattle.rules.specs.Log.{between, changesOf, lastNaming, orEmpty, flipSet}
-use Rattle.rules.specs.Versions.{versionAt, flipped, queried, flipCount, readAt}
+use Rattle.rules.specs.Versions.{versionAt, flipped, queried, flipCount, spanned, spannedRows, readAt}
 use Rattle.rules.specs.Tidy.{moves, moved}
 use Rattle.rules.proofs.LogLaws.{version-before}
 use Rattle.tables.specs.Cells.{Tables, valuesIn, stampIn, slotsIn, slotStamp, slotWords, headOf, endAt}
@@ -30,6 +31,7 @@ use Rattle.history.specs.Version.{slotSeen, baseSeen}
 use Rattle.history.specs.Last.{lastSet}
 use Rattle.history.specs.Flips.{flippedIn}
 use Rattle.history.specs.Query.{frontFilled, queriedSince, countSince, scratchSince, queriedAt, foundAt, scratchAt}
+use Rattle.history.specs.Span.{spannedAt}
 use Rattle.history.specs.Read.{readCells}
 use Rattle.history.proofs.VersionLaws.{seen-le, seen-version}
 
@@ -112,6 +114,24 @@ module _ (t : Tables) (good : sound t ≡ true) where
           (frontFilled (queried (meaning t .log) (chain (meaning t .chains) v) s v) scratch)
       unfolding scratchAt scratchSince frontFilled foundAt queriedAt
       scratch-meets scratch = rw (count-meets, vec-ext _ _ 32 (λ r l. queried-meets r))
+
+    -- ---- the query of a span of values
+
+    module _ (a b : ℕ) (below : b < valuesIn (t .clock)) where
+      pub spanned-meets : (r : ℕ) → spannedAt (t .slots) (t .words) (t .heads) (t .log) (t .changes) s a b r
+          ≡ spanned (meaning t .log) (meaning t .chains) s a b r
+      unfolding spannedAt spanned
+      spanned-meets r =
+          any-ext (λ v. queriedAt (t .slots) (t .words) (t .heads) (t .log) (t .changes) s v r)
+          (λ v. queried (meaning t .log) (chain (meaning t .chains) v) s v r) a (suc b) (λ v h l. queried-meets v (omega arith) r)
+
+      pub span-meets : rowsOf (vec (spannedAt (t .slots) (t .words) (t .heads) (t .log) (t .changes) s a b) 32)
+          ≡ spannedRows (meaning t .log) (meaning t .chains) s a b
+      unfolding maxRows
+      span-meets =
+          rowsOf-vec (spannedAt (t .slots) (t .words) (t .heads) (t .log) (t .changes) s a b) 32
+          ∙ rows-ext (spannedAt (t .slots) (t .words) (t .heads) (t .log) (t .changes) s a b)
+          (spanned (meaning t .log) (meaning t .chains) s a b) 2048 (λ r l. spanned-meets r)
 
   -- ---- the read of a row
 

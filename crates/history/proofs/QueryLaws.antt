@@ -23,7 +23,7 @@ use Rattle.history.specs.declared.chain.Base.{Base}
 use Rattle.history.specs.declared.query.Found.{Found}
 use Rattle.history.specs.Version.{baseSeen}
 use Rattle.history.specs.Flips.{flippedIn, RowsLow}
-use Rattle.history.specs.Query.{frontFilled, queriedSince, countSince, scratchSince, foundAt, scratchAt, Ready}
+use Rattle.history.specs.Query.{frontFilled, queriedSince, countSince, scratchSince, foundAt, scratchAt}
 
 -- ---- the words of a slot
 
@@ -59,16 +59,12 @@ module _ (words : List ℕ) (slot : ℕ) where
 abbrev answer : ℕ → ℕ → Found
 answer slot flips = record { slot = slot; flips = flips }
 
-module _ (slots words heads log changes scratch : List ℕ) (s v : ℕ) where
-  pub flips-rows : (from to : ℕ) → Ready slots words heads log changes scratch s v → to ≡ endAt log s → RowsLow changes from to
-  flips-rows from to f e =
-      record {
-        changes-room = f .rows .changes-room;
-        end-low = rw e (f .rows .end-low);
-        rows-low = λ p h l. f .rows .rows-low p
-            (omega arith) (omega arith);
-      }
+-- the rows of all changes up to a place are low: so are those of a stretch up to it
+pub flips-rows : (log changes : List ℕ) (s from to : ℕ) → RowsLow changes 0 (endAt log s) → to ≡ endAt log s → RowsLow changes from to
+flips-rows log changes s from to f e =
+    record { changes-room = f .changes-room; end-low = rw e (f .end-low); rows-low = λ p h l. f .rows-low p (omega arith) (omega arith) }
 
+module _ (slots words heads log changes scratch : List ℕ) (s v : ℕ) where
   module _ (base : Base) (to n : ℕ) (mask : List ℕ) (b : base ≡ baseSeen slots heads log s v) (t : to ≡ endAt log s)
       (m : mask ≡ vec (flippedIn changes (base .from) to v) 32) (c : n ≡ countOf mask) where
     count-is : n ≡ countSince (baseSeen slots heads log s v) changes (endAt log s) v

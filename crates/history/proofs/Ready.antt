@@ -12,6 +12,7 @@ use Rattle.tables.proofs.Facts.{Room, room-facts, Parts, parts, ClockLimits, cl
 use Rattle.history.specs.Version.{Headed, Based}
 use Rattle.history.specs.Flips.{RowsLow}
 use Rattle.history.specs.Query.{Ready}
+use Rattle.history.specs.Span.{SpanReady}
 use Rattle.history.specs.Read.{ReadReady}
 use Rattle.history.proofs.Meets.{head-used, seen-old}
 
@@ -54,6 +55,14 @@ module _ (t : Tables) (room : roomy t ≡ true) (good : sound t ≡ true) where
       based = based v below;
       words-room = r .words-room;
       scratch-room = long;
+      stamp-low = omega (arith, k .few-records);
+      rows = rows-low 0;
+    }
+
+    pub span-ready : (b : ℕ) → b < valuesIn (t .clock) → SpanReady (t .slots) (t .words) (t .heads) (t .log) (t .changes) s b
+    span-ready b below = record {
+      each-based = λ v h. based v (omega arith);
+      words-room = r .words-room;
       stamp-low = omega (arith, k .few-records);
       rows = rows-low 0;
     }

@@ -3,4 +3,5 @@ pub mod Version
 pub mod Last
 pub mod Flips
 pub mod Query
+pub mod Span
 pub mod Read

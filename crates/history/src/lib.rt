@@ -1,10 +1,11 @@
-// What the log and the versions say at a stamp: the last change naming a row, the version of a value, query and read.
+// What the log and the versions say at a stamp: the last change naming a row, the version of a value, query, span and read.
 // Assumes nothing.
 mod chain;
 mod changes;
 mod mask;
 mod query;
 mod read;
+mod span;
 mod vector;
 
 pub use chain::Base;
@@ -20,3 +21,4 @@ pub use query::query_at;
 pub use read::Standing;
 pub use read::read_after;
 pub use read::read_at;
+pub use span::span_at;

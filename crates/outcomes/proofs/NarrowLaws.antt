@@ -12,7 +12,7 @@ use lib.Dec.{leb, leb→le}
 use lib.ListN.{length}
 use Rattle.bits.proofs.Cases.{lt-cases}
 use Rattle.rules.specs.State.{Session, session, rowsOf}
-use Rattle.rules.specs.Calls.{Call, query, read, update, delete, insert, tidy}
+use Rattle.rules.specs.Calls.{Call, query, span, read, update, delete, insert, tidy}
 use Rattle.rules.specs.Refusals.{Test, firstOf, noSession, notOpen, noValue, noRow, tests}
 use Rattle.tables.specs.declared.counts.Row.{Row}
 use Rattle.tables.specs.declared.counts.Value.{Value}
@@ -28,6 +28,7 @@ use Rattle.outcomes.specs.Narrow.{greatest, narrowed}
 use Rattle.outcomes.specs.Outcome.{Outcome, refusalAt, unless}
 use Rattle.outcomes.specs.Calls.{readOf, updateOf, deleteOf, insertOf, tidyOf}
 use Rattle.outcomes.specs.Query.{queryOf}
+use Rattle.outcomes.specs.Span.{spanOf}
 
 pub narrow-past : (n : ℕ) → 4294967295 < n → 4294967295 ≡ narrowed n
 unfolding narrowed greatest
@@ -101,12 +102,11 @@ module _ (t : Tables) (n : ℕ) where
   x = session (meaning t) n
 
   -- two calls that differ from the value on, and two that differ from the row on, after the same tests
-  value-alike : (bs : List (List ℕ)) (o p : Outcome) (c d : Call) (v : ℕ) (rs us : List Test)
-      → tests (meaning t) c ≡ noSession n ∷ notOpen x ∷ noValue (meaning t) (narrowed v) ∷ rs
-      → tests (meaning t) d ≡ noSession n ∷ notOpen x ∷ noValue (meaning t) v ∷ us → (2048 ≤ narrowed v) × (2048 ≤ v)
-      → unless (refusalAt t c) t bs o ≡ unless (refusalAt t d) t bs p
-  value-alike bs o p c d v rs us e f h =
-      alike t bs o p c d (noSession n ∷ notOpen x ∷ []) (noValue (meaning t) (narrowed v)) (noValue (meaning t) v) rs us e f refl
+  value-alike : (bs : List (List ℕ)) (o p : Outcome) (c d : Call) (ps : List Test) (v : ℕ) (rs us : List Test)
+      → tests (meaning t) c ≡ ps ++ noValue (meaning t) (narrowed v) ∷ rs → tests (meaning t) d ≡ ps ++ noValue (meaning t) v ∷ us
+      → (2048 ≤ narrowed v) × (2048 ≤ v) → unless (refusalAt t c) t bs o ≡ unless (refusalAt t d) t bs p
+  value-alike bs o p c d ps v rs us e f h =
+      alike t bs o p c d ps (noValue (meaning t) (narrowed v)) (noValue (meaning t) v) rs us e f refl
       (λ g. (value-past t g (narrowed v) (h .0), value-past t g v (h .1)))
 
   row-alike : (o p : Outcome) (c d : Call) (ps : List Test) (r : ℕ) (rs us : List Test)
@@ -124,7 +124,7 @@ by-narrowed : {A : Type 0} (f : ℕ → A) (v w : ℕ) → w ≡ narrowed v → 
 by-narrowed f v w e h = ap f e ∙ ⊎-elim (λ (q : narrowed v ≡ v). ap f q) h (narrow-cases v)
 
 module _ (t : Tables) (n : ℕ) where
-  -- the tests before a row
+  -- the tests before a row or a value
   abbrev two : List Test
   two = noSession n ∷ notOpen (session (meaning t) n) ∷ []
 
@@ -133,8 +133,18 @@ module _ (t : Tables) (n : ℕ) where
   unfolding queryOf tests
   query-wide scratch v threshold w e =
       by-narrowed (λ (k : ℕ). queryOf t scratch n k threshold) v (w .0) e
-      (value-alike t n (scratch ∷ []) _ _ (query n (narrowed v) threshold (length scratch))
-      (query n v threshold (length scratch)) v _ _ refl refl)
+      (value-alike t n (scratch ∷ []) _ _ (query n (narrowed v) threshold (length scratch)) (query n v threshold (length scratch)) two v _ _
+      refl refl)
+
+  pub span-wide : (list : List ℕ) (a b : ℕ) (w u : Value) → w .0 ≡ narrowed a → u .0 ≡ narrowed b
+      → spanOf t list n (w .0) (u .0) ≡ spanOf t list n a b
+  unfolding spanOf tests
+  span-wide list a b w u e h =
+      by-narrowed (λ (k : ℕ). spanOf t list n k (u .0)) a (w .0) e
+      (value-alike t n (list ∷ []) _ _ (span n (narrowed a) (u .0) (length list)) (span n a (u .0) (length list)) two a _ _ refl refl)
+      ∙ by-narrowed (λ (k : ℕ). spanOf t list n a k) b (u .0) h
+      (value-alike t n (list ∷ []) _ _ (span n a (narrowed b) (length list)) (span n a b (length list))
+      (two ++ noValue (meaning t) a ∷ []) b _ _ refl refl)
 
   pub read-wide : (r : ℕ) (k : Row) → k .0 ≡ narrowed r → readOf t n (k .0) ≡ readOf t n r
   unfolding readOf tests
@@ -144,7 +154,7 @@ module _ (t : Tables) (n : ℕ) where
   unfolding updateOf tests
   update-wide r v k w e h =
       by-narrowed (updateOf t n (k .0)) v (w .0) h
-      (value-alike t n [] _ _ (update n (k .0) (narrowed v)) (update n (k .0) v) v _ _ refl refl)
+      (value-alike t n [] _ _ (update n (k .0) (narrowed v)) (update n (k .0) v) two v _ _ refl refl)
       ∙ by-narrowed (λ (m : ℕ). updateOf t n m v) r (k .0) e
       (row-alike t n _ _ (update n (narrowed r) v) (update n r v) (two ++ noValue (meaning t) v ∷ []) r _ _ refl refl)
 
@@ -154,8 +164,9 @@ module _ (t : Tables) (n : ℕ) where
 
   pub insert-wide : (v : ℕ) (w : Value) → w .0 ≡ narrowed v → insertOf t n (w .0) ≡ insertOf t n v
   unfolding insertOf tests
-  insert-wide v w e = by-narrowed (insertOf t n) v (w .0) e (value-alike t n [] _ _ (insert n (narrowed v)) (insert n v) v _ _ refl refl)
+  insert-wide v w e =
+      by-narrowed (insertOf t n) v (w .0) e (value-alike t n [] _ _ (insert n (narrowed v)) (insert n v) two v _ _ refl refl)
 
   pub tidy-wide : (v : ℕ) (w : Value) → w .0 ≡ narrowed v → tidyOf t n (w .0) ≡ tidyOf t n v
   unfolding tidyOf tests
-  tidy-wide v w e = by-narrowed (tidyOf t n) v (w .0) e (value-alike t n [] _ _ (tidy n (narrowed v)) (tidy n v) v _ _ refl refl)
+  tidy-wide v w e = by-narrowed (tidyOf t n) v (w .0) e (value-alike t n [] _ _ (tidy n (narrowed v)) (tidy n v) two v _ _ refl refl)

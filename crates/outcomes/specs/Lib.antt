@@ -3,6 +3,7 @@ pub mod Outcome
 pub mod Stores
 pub mod Calls
 pub mod Query
+pub mod Span
 pub mod Seats
 pub mod Narrow
 pub mod Enter

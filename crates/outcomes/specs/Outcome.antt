@@ -12,7 +12,7 @@ use Rattle.tables.specs.Meaning.{meaning}
 use Rattle.outcomes.specs.Said.{Said, no}
 
 -- every lent cell afterwards, and the answer; the buffers are what is lent beside the tables to be written, in the order of lending:
--- none, or query's scratch
+-- none, query's scratch, or span's list
 pub record Outcome : Type 0 where
   pub after : Tables
   pub buffers : List (List ℕ)

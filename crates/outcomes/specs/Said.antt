@@ -13,7 +13,7 @@ use Rattle.outcomes.specs.declared.answers.Answer.the-variants.{No, Coun
 pub data Said : Type 0 where
   -- "A refusal answers the number and nothing more"
   no : ℕ → Said
-  -- create, begin, update, delete, insert, commit, tidy, abort: their numbers
+  -- create, begin, span, update, delete, insert, commit, tidy, abort: their numbers
   numbers : List ℕ → Said
   -- read: "the value or says absent"
   value : Option ℕ → Said

@@ -63,7 +63,7 @@ freeing d n ts = freedAt ts n (d .yes)
 abbrev pub freeingAll : Freed → List Session → List Session
 freeingAll d ts = allFreed ts (d .yes)
 
--- query, read and tidy touch none
+-- query, span, read and tidy touch none
 abbrev pub untouched : List Session → List Session
 untouched ts = ts
 

@@ -13,9 +13,9 @@ pub enum Place {
     Scratch,
 }
 
-// A call's answer. `Count` is create's row count, the list's length (update, delete, insert) or the length dropped (abort);
-// `At` a stamp with a row count (begin, commit) or with the number of rows moved (tidy); `Read` is read's; `Listed` is query's:
-// flip count, due, and where the words stand.
+// A call's answer. `Count` is create's row count, span's number of rows, the list's length (update, delete, insert) or the length
+// dropped (abort); `At` a stamp with a row count (begin, commit) or with the number of rows moved (tidy); `Read` is read's;
+// `Listed` is query's: flip count, due, and where the words stand.
 pub enum Answer {
     No(Refusal),
     Count(u32),

@@ -1,4 +1,4 @@
-// What each of the ten calls leaves in the lent tables and answers, as definitions; the answers, the refusals that the calls
+// What each call leaves in the lent tables and answers, as definitions; the answers, the refusals that the calls
 // share, and what stands in a session's list. Assumes nothing.
 mod answers;
 mod enter;

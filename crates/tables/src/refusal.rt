@@ -1,4 +1,4 @@
-// Why a call refuses, and document 01's number of each reason.
+// Why a call refuses, and the number of each reason: document 01's 1 to 19, then those of the requests.
 ghost use mathlib.Core.Path.{_≡_};
 ghost use Rattle.tables.specs.Refusals.{numberOf};
 
@@ -23,9 +23,11 @@ pub enum Refusal {
     ChangesFull,
     SlotsFull,
     Unreadable,
+    Backward,
+    ShortList,
 }
 
-// Document 01's number of a reason.
+// The number of a reason.
 pub fn number(why: Refusal) -> u32
     ensures { λ r. ⌜ r ≡ numberOf why ⌝ }
 {
@@ -49,5 +51,7 @@ pub fn number(why: Refusal) -> u32
         Refusal::ChangesFull => 17,
         Refusal::SlotsFull => 18,
         Refusal::Unreadable => 19,
+        Refusal::Backward => 20,
+        Refusal::ShortList => 21,
     }
 }
