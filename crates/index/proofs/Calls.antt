@@ -1,9 +1,9 @@
--- The ten calls as instances of one walk: their parameters, what their contracts say, and the ends.
+-- The calls as instances of one walk: their parameters, what their contracts say, and the ends.
 --     on-tables        the parameters: the tables, of which the thin functions see the clock and the log where these are marked, the
 --                      session table, and more.
 --     on-core          the core's.        tabs, past      the tables told by a list of them, and what stands after these in it
 --     Call             a call's further parameters, which of them is the session's number, the buffers, and its definition.
---                      begins .. creates       the ten
+--                      begins .. creates       each of them
 --     Seats, Counts, Opens, Puts, Frees, Frees-all       what the thin functions say that a call calls
 --     opened, put-back, freed-up       how a call ends.        Comes-to, Serving, Creating       what a call says, and what its core says
 --     settles          what the core says, and the thin function of its end, give what the call says
@@ -12,7 +12,7 @@ use Prim.Native.Nat.{ℕ}
 use mathlib.Core.Bool.{true, false}
 pub use mathlib.Core.List.{List, [], _∷_, _++_}
 use lib.ListN.{length}
-pub use mir.Syntax.{w8, w32, w64, field, place, copy}
+pub use mir.Syntax.{w8, w16, w32, w64, field, place, copy}
 use types.Run.{stop, fld, load, and-then, no-more}
 use types.Part.{whole, sub, look-in}
 pub use Rattle.tables.specs.declared.session.Session.{Session}
@@ -30,6 +30,7 @@ pub use Rattle.outcomes.specs.Said.{Said, said}
 pub use Rattle.outcomes.specs.Outcome.{Outcome, outcome}
 use Rattle.outcomes.specs.Calls.{createOf, beginOf, readOf, updateOf, deleteOf, insertOf, commitOf, tidyOf, abortOf}
 use Rattle.outcomes.specs.Query.{queryOf}
+use Rattle.outcomes.specs.Span.{spanOf}
 use Rattle.outcomes.specs.declared.answers.Answer.{Answer}
 use Rattle.outcomes.specs.Seats.{Serves, Creates}
 pub use Rattle.outcomes.specs.Seats.{opening, relisting, freeing, untouched}
@@ -117,6 +118,16 @@ asks = record {
   last-n = λ Fs y. y .1 .0;
   buffers = λ z. z .0 ∷ [];
   comes = λ y t. queryOf t (y .0) (y .1 .0) (y .1 .1 .0) (y .1 .1 .1 .0);
+}
+
+abbrev pub spans : Call
+spans = record {
+  more = lent unseen (number w16) ∷ num ∷ other ∷ other ∷ [];
+  n = λ y. y .1 .0;
+  front-n = λ y. y .1 .0;
+  last-n = λ Fs y. y .1 .0;
+  buffers = λ z. z .0 ∷ [];
+  comes = λ y t. spanOf t (y .0) (y .1 .0) (y .1 .1 .0) (y .1 .1 .1 .0);
 }
 
 abbrev pub creates : Call

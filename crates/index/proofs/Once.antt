@@ -8,7 +8,8 @@ use lib.ListN.{getD}
 use Rattle.tables.specs.declared.refusal.Refusal.{Refusal}
 use Rattle.tables.specs.declared.refusal.Refusal.the-variants.{NoRoom, Damaged, BadColumn, NoSession, NotOpen, NoValue, NoRow}
 use Rattle.tables.specs.declared.refusal.Refusal.the-variants.{RowAbsent, ListFull, ShortScratch, ListEmpty, Conflict, NothingToMove, Stale}
-use Rattle.tables.specs.declared.refusal.Refusal.the-variants.{RowsFull, RecordsFull, ChangesFull, SlotsFull, Unreadable}
+use Rattle.tables.specs.declared.refusal.Refusal.the-variants.{RowsFull, RecordsFull, ChangesFull, SlotsFull, Unreadable, Backward}
+use Rattle.tables.specs.declared.refusal.Refusal.the-variants.{ShortList}
 use Rattle.tables.specs.Refusals.{numberOf}
 use Rattle.history.specs.declared.read.Standing.the-variants.{Holds, Absent}
 use Rattle.outcomes.specs.declared.answers.Answer.{Answer}
@@ -22,7 +23,8 @@ use Rattle.index.specs.Once.{Once, NoSecond}
 reasons : List Refusal
 reasons =
     NoRoom ∷ Damaged ∷ BadColumn ∷ NoSession ∷ NotOpen ∷ NoValue ∷ NoRow ∷ RowAbsent ∷ ListFull ∷ ShortScratch ∷ ListEmpty ∷ Conflict
-    ∷ NothingToMove ∷ Stale ∷ RowsFull ∷ RecordsFull ∷ ChangesFull ∷ SlotsFull ∷ Unreadable ∷ []
+    ∷ NothingToMove ∷ Stale ∷ RowsFull ∷ RecordsFull ∷ ChangesFull ∷ SlotsFull ∷ Unreadable ∷ Backward ∷ ShortList
+    ∷ []
 
 abbrev reasonOf : ℕ → Refusal
 reasonOf n = getD (NoRoom ∷ reasons) n NoRoom
@@ -48,10 +50,8 @@ reason-again RecordsFull = refl
 reason-again ChangesFull = refl
 reason-again SlotsFull = refl
 reason-again Unreadable = refl
-
--- two reasons of one number are one
-pub number-one : (x y : Refusal) → numberOf x ≡ numberOf y → x ≡ y
-number-one x y e = sym (reason-again x) ∙ ap reasonOf e ∙ reason-again y
+reason-again Backward = refl
+reason-again ShortList = refl
 
 -- ---- the answer that says this; where none does, any
 abbrev answerOf : Said → Answer
@@ -91,6 +91,7 @@ no-second = record {
   create = λ c column. once _;
   begin = λ n. once _;
   query = λ scratch n v threshold. once _;
+  span = λ list n a b. once _;
   read = λ n row. once _;
   update = λ n row v. once _;
   delete = λ n row. once _;

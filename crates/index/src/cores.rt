@@ -10,8 +10,9 @@ ghost use Rattle.tables.specs.Cells.{tables};
 ghost use Rattle.outcomes.specs.Seats.{Serves, Creates, opening, relisting, freeing, untouched};
 ghost use Rattle.outcomes.specs.Calls.{createOf, beginOf, readOf, updateOf, deleteOf, insertOf, commitOf, tidyOf, abortOf};
 ghost use Rattle.outcomes.specs.Query.{queryOf};
+ghost use Rattle.outcomes.specs.Span.{spanOf};
 
-// Create, of a session table with so many places.
+// Create: the row count, and whether every session is to be freed, of a session table with so many places.
 pub fn create_at(
     clock: &mut [u32],
     slots: &mut [u32],
@@ -32,7 +33,7 @@ pub fn create_at(
     creating::create_in(clock, slots, words, heads, log, changes, places, c, column)
 }
 
-// Begin.
+// Begin: the start stamp and row count, and whether the session is to be opened.
 pub fn begin_at(
     clock: &mut [u32],
     slots: &mut [u32],
@@ -52,7 +53,7 @@ pub fn begin_at(
     listing::begin_in(clock, slots, words, heads, log, changes, seat, n)
 }
 
-// Query.
+// Query: the flip count, whether a tidy is due, and where the words stand.
 pub fn query_at(
     clock: &mut [u32],
     slots: &mut [u32],
@@ -89,7 +90,45 @@ pub fn query_at(
     )
 }
 
-// Read.
+// Span: how many rows hold a value from `first` to `last`, which stand in the list's first cells.
+pub fn span_at(
+    clock: &mut [u32],
+    slots: &mut [u32],
+    words: &mut [u64],
+    heads: &mut [u32],
+    log: &mut [u32],
+    changes: &mut [u32],
+    seat: Seat,
+    list: &mut [u16],
+    n: u64,
+    first: u64,
+    last: u64,
+) -> Answer
+    ensures { λ r. ⌜ Serves
+        (tables (now (clock .entry)) (now (slots .entry)) (now (words .entry)) (now (heads .entry))
+        (now (log .entry)) (now (changes .entry)))
+        (tables (now (clock .exit)) (now (slots .exit)) (now (words .exit)) (now (heads .exit))
+        (now (log .exit)) (now (changes .exit))) (now (list .exit) ∷ []) seat n untouched r
+        (λ t. spanOf t (now (list .entry)) n first last) ⌝ }
+{
+    let low = outcomes::value_of(first);
+    let high = outcomes::value_of(last);
+    reading::span_in(
+        clock,
+        slots,
+        words,
+        heads,
+        log,
+        changes,
+        list,
+        seat,
+        n,
+        low,
+        high,
+    )
+}
+
+// Read: the row's value, or that it is absent.
 pub fn read_at(
     clock: &mut [u32],
     slots: &mut [u32],
@@ -111,7 +150,7 @@ pub fn read_at(
     reading::read_in(clock, slots, words, heads, log, changes, seat, n, at)
 }
 
-// Update.
+// Update: the list's length, and the session to put back, where a row is to hold v.
 pub fn update_at(
     clock: &mut [u32],
     slots: &mut [u32],
@@ -135,7 +174,7 @@ pub fn update_at(
     listing::update_in(clock, slots, words, heads, log, changes, seat, n, at, value)
 }
 
-// Delete.
+// Delete: the list's length, and the session to put back, where a row is to be absent.
 pub fn delete_at(
     clock: &mut [u32],
     slots: &mut [u32],
@@ -157,7 +196,7 @@ pub fn delete_at(
     listing::delete_in(clock, slots, words, heads, log, changes, seat, n, at)
 }
 
-// Insert.
+// Insert: the list's length, and the session to put back, where a new row is to hold v.
 pub fn insert_at(
     clock: &mut [u32],
     slots: &mut [u32],
@@ -179,7 +218,7 @@ pub fn insert_at(
     listing::insert_in(clock, slots, words, heads, log, changes, seat, n, value)
 }
 
-// Commit.
+// Commit: the stamp and the row count after it, and whether the session is to be freed.
 pub fn commit_at(
     clock: &mut [u32],
     slots: &mut [u32],
@@ -199,7 +238,7 @@ pub fn commit_at(
     committing::commit_in(clock, slots, words, heads, log, changes, seat, n)
 }
 
-// Tidy.
+// Tidy: the stamp after it, and how many rows moved.
 pub fn tidy_at(
     clock: &mut [u32],
     slots: &mut [u32],
@@ -221,7 +260,7 @@ pub fn tidy_at(
     tidying::tidy_in(clock, slots, words, heads, log, changes, seat, n, value)
 }
 
-// Abort.
+// Abort: the length of the list dropped, and whether the session is to be freed.
 pub fn abort_at(
     clock: &mut [u32],
     slots: &mut [u32],

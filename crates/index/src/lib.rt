@@ -1,4 +1,4 @@
-// The index: the ten calls over lent tables, and the picker of a query's words. Assumes nothing.
+// The index: its calls over lent tables, and the picker of a query's words. Assumes nothing.
 mod cores;
 mod outer;
 
@@ -10,6 +10,7 @@ pub use outer::delete;
 pub use outer::insert;
 pub use outer::query;
 pub use outer::read;
+pub use outer::span;
 pub use outer::tidy;
 pub use outer::update;
 pub use reading::picked;

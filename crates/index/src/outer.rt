@@ -1,4 +1,4 @@
-// The ten calls, over every lent table: each finds its seat and goes through its core; then its session is opened, put back or freed,
+// The calls, over every lent table: each finds its seat and goes through its core; then its session is opened, put back or freed,
 // where the core says so.
 use crate::cores::abort_at;
 use crate::cores::begin_at;
@@ -8,6 +8,7 @@ use crate::cores::delete_at;
 use crate::cores::insert_at;
 use crate::cores::query_at;
 use crate::cores::read_at;
+use crate::cores::span_at;
 use crate::cores::tidy_at;
 use crate::cores::update_at;
 use outcomes::Answer;
@@ -19,6 +20,7 @@ ghost use Rattle.outcomes.specs.Said.{said};
 ghost use Rattle.outcomes.specs.Outcome.{outcome};
 ghost use Rattle.outcomes.specs.Calls.{createOf, beginOf, readOf, updateOf, deleteOf, insertOf, commitOf, tidyOf, abortOf};
 ghost use Rattle.outcomes.specs.Query.{queryOf};
+ghost use Rattle.outcomes.specs.Span.{spanOf};
 
 // Create: the row count.
 pub fn create(
@@ -100,6 +102,42 @@ pub fn query(
         n,
         v,
         threshold,
+    )
+}
+
+// Span: how many rows hold a value from `first` to `last`; they stand in the list's first cells, ascending, each once.
+pub fn span(
+    clock: &mut [u32],
+    slots: &mut [u32],
+    words: &mut [u64],
+    heads: &mut [u32],
+    log: &mut [u32],
+    changes: &mut [u32],
+    sessions: &mut [Session],
+    list: &mut [u16],
+    n: u64,
+    first: u64,
+    last: u64,
+) -> Answer
+    ensures { λ r. ⌜ outcome
+        (tables (now (clock .exit)) (now (slots .exit)) (now (words .exit)) (now (heads .exit))
+        (now (log .exit)) (now (changes .exit)) (now (sessions .exit))) (now (list .exit) ∷ []) (said r) ≡ spanOf
+        (tables (now (clock .entry)) (now (slots .entry)) (now (words .entry)) (now (heads .entry))
+        (now (log .entry)) (now (changes .entry)) (now (sessions .entry))) (now (list .entry)) n first last ⌝ }
+{
+    let seat = lent::seat_of(clock, log, sessions, n);
+    span_at(
+        clock,
+        slots,
+        words,
+        heads,
+        log,
+        changes,
+        seat,
+        list,
+        n,
+        first,
+        last,
     )
 }
 

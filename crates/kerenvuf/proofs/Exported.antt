@@ -13,7 +13,7 @@ pub use Rattle.lent.proofs.Through.{then}
 use Rattle.outcomes.specs.declared.answers.Answer.{Answer}
 use Rattle.outcomes.specs.Said.{said}
 use Rattle.outcomes.specs.Outcome.{Outcome, outcome}
-pub use Rattle.index.proofs.Calls.{the-answer, on-tables, tabs, past, Call, Comes-to, creates, begins, asks, reads, updates, deletes}
+pub use Rattle.index.proofs.Calls.{the-answer, on-tables, tabs, past, Call, Comes-to, creates, begins, asks, spans, reads, updates, deletes}
 pub use Rattle.index.proofs.Calls.{inserts, commits, tidies, aborts}
 use Rattle.kerenvuf.specs.declared.in_numbers.KvAnswer.{KvAnswer}
 use Rattle.kerenvuf.specs.Heard.{seen, inNumbers, encoded}

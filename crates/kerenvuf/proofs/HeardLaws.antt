@@ -9,7 +9,7 @@ use borrow.Author.Tests.{lt-ltb, ne-eqb, leb-false}
 use lib.Dec.{eqb, ltb}
 use lib.ListN.{length}
 use Rattle.rules.specs.State.{session, startOf}
-use Rattle.rules.specs.Calls.{create, begin, query, read, update, delete, insert, commit, tidy, abort}
+use Rattle.rules.specs.Calls.{create, begin, query, span, read, update, delete, insert, commit, tidy, abort}
 use Rattle.rules.specs.Refusals.{tests}
 use Rattle.rules.proofs.Tests.{all-fail}
 use Rattle.tables.specs.Cells.{Tables, valuesIn}
@@ -24,6 +24,7 @@ use Rattle.outcomes.specs.Outcome.{Outcome, unless, refusalAt, refusalOfCreate}
 use Rattle.outcomes.specs.Calls.{own, beginning, columnOf, createOf, beginOf, readOf, updateOf, deleteOf, insertOf, commitOf, tidyOf}
 use Rattle.outcomes.specs.Calls.{abortOf}
 use Rattle.outcomes.specs.Query.{flipsSeen, asked, queryOf}
+use Rattle.outcomes.specs.Span.{listedSpan, spanOf}
 use Rattle.kerenvuf.specs.Heard.{placeNumber, decoded, Kept, AllHeard}
 use Rattle.kerenvuf.specs.Picked.{placeNamed}
 
@@ -100,11 +101,12 @@ module _ (t : Tables) (scratch : List ℕ) (n v threshold : ℕ) where
 
 -- ---- every call
 pub all-heard : AllHeard
-unfolding createOf beginOf beginning readOf updateOf deleteOf insertOf commitOf tidyOf abortOf
+unfolding createOf beginOf beginning spanOf listedSpan readOf updateOf deleteOf insertOf commitOf tidyOf abortOf
 all-heard = record {
   create = λ t c column. unless-kept (refusalOfCreate t (create c (columnOf column))) t [] _ (λ e. count-kept (length column));
   begin = λ t n. unless-kept (refusalAt t (begin n)) t [] _ (λ e. two-kept (eqb (own t n .live) 1) _ _ (stamp-kept _ _) (stamp-kept _ _));
   query = query-kept;
+  span = λ t list n a b. unless-kept (refusalAt t (span n a b (length list))) t (list ∷ []) _ (λ e. count-kept _);
   read = λ t n row. unless-kept (refusalAt t (read n row)) t [] _ (λ e. value-kept _);
   update = λ t n row v. unless-kept (refusalAt t (update n row v)) t [] _ (λ e. count-kept _);
   delete = λ t n row. unless-kept (refusalAt t (delete n row)) t [] _ (λ e. count-kept _);

@@ -9,6 +9,7 @@ use Rattle.tables.specs.Cells.{Tables}
 use Rattle.outcomes.specs.Said.{Said, no, numbers, value, words}
 use Rattle.outcomes.specs.Outcome.{Outcome}
 use Rattle.outcomes.specs.Query.{queryOf}
+use Rattle.outcomes.specs.Span.{spanOf}
 use Rattle.outcomes.specs.Calls.{createOf, beginOf, readOf, updateOf, deleteOf, insertOf, commitOf, tidyOf, abortOf}
 use Rattle.kerenvuf.specs.declared.in_numbers.KvAnswer.{KvAnswer}
 use Rattle.kerenvuf.specs.Picked.{placeNamed}
@@ -70,6 +71,7 @@ pub record AllHeard : Type 0 where
   pub create : (t : Tables) (c : ℕ) (column : List ℕ) → Kept (createOf t c column .answer)
   pub begin : (t : Tables) (n : ℕ) → Kept (beginOf t n .answer)
   pub query : (t : Tables) (scratch : List ℕ) (n v threshold : ℕ) → Kept (queryOf t scratch n v threshold .answer)
+  pub span : (t : Tables) (list : List ℕ) (n a b : ℕ) → Kept (spanOf t list n a b .answer)
   pub read : (t : Tables) (n row : ℕ) → Kept (readOf t n row .answer)
   pub update : (t : Tables) (n row v : ℕ) → Kept (updateOf t n row v .answer)
   pub delete : (t : Tables) (n row : ℕ) → Kept (deleteOf t n row .answer)

@@ -1,4 +1,4 @@
-// The ten calls as C calls them: each is the call of the index, and its answer in numbers. What C sees of a call, every lent cell and
+// The calls as C calls them: each is the call of the index, and its answer in numbers. What C sees of a call, every lent cell and
 // every number of the answer, is what the call's definition says.
 use crate::in_numbers::KvAnswer;
 use crate::in_numbers::numbers;
@@ -8,6 +8,7 @@ ghost use mathlib.Core.List.{[], _∷_};
 ghost use Rattle.tables.specs.Cells.{tables};
 ghost use Rattle.outcomes.specs.Calls.{createOf, beginOf, readOf, updateOf, deleteOf, insertOf, commitOf, tidyOf, abortOf};
 ghost use Rattle.outcomes.specs.Query.{queryOf};
+ghost use Rattle.outcomes.specs.Span.{spanOf};
 ghost use Rattle.kerenvuf.specs.Heard.{seen, inNumbers};
 
 // Create: the row count.
@@ -98,6 +99,43 @@ pub extern "C" fn kv_query(
         n,
         v,
         threshold,
+    );
+    numbers(answer)
+}
+
+// Span: how many rows hold a value from `first` to `last`; they stand in the list's first cells, ascending, each once.
+#[no_mangle]
+pub extern "C" fn kv_span(
+    clock: &mut [u32],
+    slots: &mut [u32],
+    words: &mut [u64],
+    heads: &mut [u32],
+    log: &mut [u32],
+    changes: &mut [u32],
+    sessions: &mut [Session],
+    list: &mut [u16],
+    n: u64,
+    first: u64,
+    last: u64,
+) -> KvAnswer
+    ensures { λ r. ⌜ seen
+        (tables (now (clock .exit)) (now (slots .exit)) (now (words .exit)) (now (heads .exit))
+        (now (log .exit)) (now (changes .exit)) (now (sessions .exit))) (now (list .exit) ∷ []) r ≡ inNumbers (spanOf
+        (tables (now (clock .entry)) (now (slots .entry)) (now (words .entry)) (now (heads .entry))
+        (now (log .entry)) (now (changes .entry)) (now (sessions .entry))) (now (list .entry)) n first last) ⌝ }
+{
+    let answer = index::span(
+        clock,
+        slots,
+        words,
+        heads,
+        log,
+        changes,
+        sessions,
+        list,
+        n,
+        first,
+        last,
     );
     numbers(answer)
 }
