@@ -1,5 +1,5 @@
 -- DEMAND 1: "Bad input is refused by document 01's numbers, always the smallest that applies; a refusal changes no cell." Every call
--- is judged alike: a number where one of its conditions holds, its work where none does; and the conditions' numbers rise.
+-- is judged alike: a number where one of its conditions holds, its work where none does; and the conditions' numbers do not fall.
 use mathlib.Core.Path.{_≡_, refl, _∙_, sym, ap}
 use mathlib.Core.Bool.{Bool, true, false, not, cond, false≢true}
 use mathlib.Core.Option.{Option, some, none}
@@ -20,8 +20,9 @@ use Rattle.outcomes.specs.Said.{Said, no, numbers, value, words}
 use Rattle.outcomes.specs.Outcome.{Outcome, refusalAt, refusalOfCreate, unless}
 use Rattle.outcomes.specs.Calls.{own, beginning, createOf, beginOf, readOf, updateOf, deleteOf, insertOf, commitOf, tidyOf, abortOf}
 use Rattle.outcomes.specs.Query.{flipsSeen, asked, queryOf}
-use Rattle.demands.specs.Asks.{Ask, create, begin, query, read, update, delete, insert, commit, tidy, abort, callOf, buffersOf}
-use Rattle.demands.specs.Asks.{comesTo}
+use Rattle.outcomes.specs.Span.{listedSpan, spanOf}
+use Rattle.demands.specs.Asks.{Ask, create, begin, query, span, read, update, delete, insert, commit, tidy, abort, callOf}
+use Rattle.demands.specs.Asks.{buffersOf, comesTo}
 use Rattle.demands.specs.Conditions.{noRoom, damaged, conditions}
 use Rattle.demands.specs.Demands.{RefusedRightly}
 
@@ -70,7 +71,7 @@ either P false x y p q = q
 
 -- every call is
 pub judged : (t : Tables) (a : Ask) → Judged t a
-unfolding createOf beginOf beginning readOf updateOf deleteOf insertOf commitOf tidyOf abortOf queryOf asked
+unfolding createOf beginOf beginning readOf updateOf deleteOf insertOf commitOf tidyOf abortOf queryOf asked spanOf listedSpan
 judged t (create C col) = settled t (create C col) _ _ refl (create-number t (callOf (create C col))) refl
 judged t (begin n) =
     settled t (begin n) _ _ refl (number t (callOf (begin n)))
@@ -78,6 +79,7 @@ judged t (begin n) =
 judged t (query scratch n v threshold) =
     settled t (query scratch n v threshold) _ _ refl (number t (callOf (query scratch n v threshold)))
     (either (λ (o : Outcome). isNo (o .answer) ≡ false) (eqb (flipsSeen t (startOf (session (meaning t) n)) v) 0) _ _ refl refl)
+judged t (span list n a b) = settled t (span list n a b) _ _ refl (number t (callOf (span list n a b))) refl
 judged t (read n r) = settled t (read n r) _ _ refl (number t (callOf (read n r))) refl
 judged t (update n r v) = settled t (update n r v) _ _ refl (number t (callOf (update n r v))) refl
 judged t (delete n r) = settled t (delete n r) _ _ refl (number t (callOf (delete n r))) refl
@@ -86,12 +88,13 @@ judged t (commit n) = settled t (commit n) _ _ refl (number t (callOf (commit n)
 judged t (tidy n v) = settled t (tidy n v) _ _ refl (number t (callOf (tidy n v))) refl
 judged t (abort n) = settled t (abort n) _ _ refl (number t (callOf (abort n))) refl
 
--- the numbers of a call's conditions rise: 1, and 2 but of create, then the rules' own
+-- the numbers of a call's conditions do not fall: 1, and 2 but of create, then the rules' own
 rise : (t : Tables) (a : Ask) → Rising 0 (conditions t a)
 unfolding tests
 rise t (create C col) = omega arith
 rise t (begin n) = omega arith
 rise t (query scratch n v threshold) = omega arith
+rise t (span list n a b) = omega arith
 rise t (read n r) = omega arith
 rise t (update n r v) = omega arith
 rise t (delete n r) = omega arith

@@ -1,14 +1,11 @@
 -- DEMAND 3: every call of every run since an accepted create is right in the plain observer's words.
-use mathlib.Core.Path.{_≡_, refl, sym, _∙_}
+use mathlib.Core.Path.{_≡_, sym, _∙_}
 use mathlib.Core.Bool.{true, false}
-use mathlib.Core.Option.{Option, none, some}
 use mathlib.Core.List.{List, [], _∷_}
 use Prim.Native.Nat.{ℕ, _≤_}
 use native.Mathlib.Omega.{arith}
-use Rattle.rules.specs.Calls.{refused, ok}
-use Rattle.rules.specs.Calls as rules
-use Rattle.rules.specs.Refusals.{badColumn, tests, refusal}
-use Rattle.rules.specs.Step.{effect, unless, step}
+use Rattle.rules.specs.Calls.{refused}
+use Rattle.rules.specs.Refusals.{badColumn, tests}
 use Rattle.rules.specs.Plain.{Observer, started, watches, observes}
 use Rattle.rules.specs.Demand.{Right}
 use Rattle.rules.proofs.EveryRun.{right, tidy-moves}
@@ -20,9 +17,9 @@ use Rattle.tables.specs.Meaning.{meaning}
 use Rattle.outcomes.specs.Calls.{columnOf, createOf}
 use Rattle.follow.specs.Good.{Good}
 use Rattle.follow.proofs.Create.{create-creates}
-use Rattle.demands.specs.Asks.{Ask, query, read, commit, tidy, callOf, comesTo, told, tablesAfter, transcriptOf}
+use Rattle.demands.specs.Asks.{Ask, query, span, read, commit, tidy, callOf, comesTo, told, tablesAfter, transcriptOf}
 use Rattle.demands.specs.Demands.{RightAt}
-use Rattle.demands.proofs.Steps.{steps, tells}
+use Rattle.demands.proofs.Steps.{steps, tells, accepted}
 
 -- ---- one moment
 
@@ -35,16 +32,7 @@ module _ (t : Tables) (o : Observer) (g : Good t) (w : Inv (meaning t) o) where
   number-high : (a : Ask) (n : ℕ) → told t a ≡ refused n → 3 ≤ n
   number-high a n e =
       let c = callOf a in
-      first-above (tests (meaning t) c) 2 (tests-rise (meaning t) c) n (refused-exactly (meaning t) c n .0 (sym (tells t g a) ∙ e))
-
-  -- a tidy that answers numbers is accepted
-  tidy-accepted : (n v : ℕ) (ns : List ℕ) → told t (tidy n v) ≡ ok ns → refusal (meaning t) (rules.tidy n v) ≡ none
-  unfolding step
-  tidy-accepted n v ns e = go (refusal (meaning t) (rules.tidy n v)) (sym (tells t g (tidy n v)) ∙ e)
-    where
-      go : (q : Option ℕ) → unless (meaning t) q (effect (meaning t) (rules.tidy n v)) .1 ≡ ok ns → q ≡ none
-      go none h = refl
-      go (some k) h = absurd (let z : _≡_ {A = ℕ} 0 1 = cc in omega arith)
+      first-above (tests (meaning t) c) 3 (tests-rise (meaning t) c) n (refused-exactly (meaning t) c n .0 (sym (tells t g a) ∙ e))
 
   -- each part
   right-at : RightAt t o
@@ -53,9 +41,15 @@ module _ (t : Tables) (o : Observer) (g : Good t) (w : Inv (meaning t) o) where
         λ scratch n v threshold k due rows e.
         let y = rw e at (right-told (query scratch n v threshold)) in
         (y .since, y .own, y .is-open, y .exactly);
+    spans =
+        λ list n a b rows e.
+        let y = rw e at (right-told (span list n a b)) in
+        (y .since, y .own, y .is-open, y .exactly, y .ascending);
     reads = λ n r x e. let y = rw e at (right-told (read n r)) in (y .since, y .own, y .is-open, y .cell-is);
     conflicts = λ n since x ws e. right-told (commit n) .conflict since x ws e;
-    moves = λ n v ns e. tidy-moves (meaning t) o w n v (tidy-accepted n v ns e);
+    moves =
+        λ n v ns e.
+        tidy-moves (meaning t) o w n v (accepted t g (tidy n v) (λ m f. let z : _≡_ {A = ℕ} 0 1 = cc in omega arith));
     right = right-told;
     never = λ a. (λ e. omega (arith, number-high a _ e), λ e. omega (arith, number-high a _ e));
     stays-good = g;

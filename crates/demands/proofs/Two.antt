@@ -1,5 +1,6 @@
 -- DEMAND 2: "Every call answers and writes exactly what 01 says. A column turned into vectors reads back as that column." After a
--- create and a begin, a read of each row gives the column's cell, a query of each value its rows.
+-- create and a begin, a read of each row gives the column's cell, a query of each value its rows. A span of one value lists what its
+-- query lists.
 use mathlib.Core.Path.{_≡_, sym, ap, ap₂, _∙_}
 use mathlib.Core.Bool.{Bool, false, true}
 use mathlib.Core.Option.{none}
@@ -13,14 +14,15 @@ use lib.Seq.{getD-set-same, take-nil}
 use Rattle.bits.proofs.RowLaws.{length-rows, count-none}
 use Rattle.bits.specs.Column.{valueOf}
 use Rattle.rules.specs.Limits.{maxSessions, vectorWords}
-use Rattle.rules.specs.State.{State, free, opened, session}
-use Rattle.rules.specs.Calls.{Call, Column, cell, holds, begin, query, read, ok, value, listed}
+use Rattle.rules.specs.State.{State, free, opened, session, startOf}
+use Rattle.rules.specs.Calls.{Call, Column, cell, holds, begin, query, read, ok, value, listed, found}
 use Rattle.rules.specs.Refusals.{badColumn, tests, refusal}
 use Rattle.rules.specs.Step.{created, seated, effect, step}
 use Rattle.rules.specs.Plain.{Observer, away, sitting, movedBy, sits, started, accepts, watches}
 use Rattle.rules.specs.Demand.{Lists}
 use Rattle.rules.proofs.Small.{turn-none}
 use Rattle.rules.proofs.LogLaws.{stamp-empty}
+use Rattle.rules.proofs.Spans.{span-one}
 use Rattle.rules.proofs.Tests.{fail-all}
 use Rattle.rules.proofs.Numbers.{accepted-takes-effect}
 use Rattle.rules.proofs.Run.{Inv, start-inv, step-keeps}
@@ -34,8 +36,8 @@ use Rattle.follow.specs.Good.{Good}
 use Rattle.follow.specs.Follows.{Follows}
 use Rattle.follow.proofs.Create.{create-creates}
 use Rattle.demands.specs.Demands.{ListsRows, ReadsBack, DoesAsSaid}
-use Rattle.demands.specs.Asks.{create, begin, query, read, callOf, comesTo, told, tablesAfter}
-use Rattle.demands.proofs.Steps.{steps, tells}
+use Rattle.demands.specs.Asks.{create, begin, query, span, read, callOf, comesTo, told, tablesAfter}
+use Rattle.demands.proofs.Steps.{steps, tells, tells-effect}
 
 module _ (C : ℕ) (col : Column) (good : badColumn C col ≡ false) (n : ℕ) (place : n < 16) where
   -- the state then
@@ -148,6 +150,15 @@ module _ (t : Tables) (room : roomy t ≡ true) (C : ℕ) (col : List ℕ) (good
         (lists C (columnOf col) good n place v threshold (length scratch) low size);
   }
 
+-- a span of one value is the query of that value
+one-value : (t : Tables) → Good t → (list scratch : List ℕ) (n v threshold k : ℕ) (due : Bool) (rows own : List ℕ)
+    → told t (span list n v v) ≡ found rows → told t (query scratch n v threshold) ≡ listed k due own → rows ≡ own
+unfolding effect
+one-value t g list scratch n v threshold k due rows own p q =
+    let a = sym p ∙ tells-effect t g (span list n v v) (λ m e. let z : _≡_ {A = ℕ} 0 1 = cc in omega arith) in
+    let b = sym q ∙ tells-effect t g (query scratch n v threshold) (λ m e. let z : _≡_ {A = ℕ} 0 1 = cc in omega arith) in
+    cc (a, b, span-one (meaning t .log) (meaning t .chains) (startOf (session (meaning t) n)) v)
+
 -- THE SECOND DEMAND
 pub demand-2 : (t : Tables) → roomy t ≡ true → DoesAsSaid t
-demand-2 t room = record { steps = steps t; reads-back = reads-back t room }
+demand-2 t room = record { steps = steps t; one-value = one-value t; reads-back = reads-back t room }

@@ -6,7 +6,7 @@ use Rattle.tables.specs.Cells.{Tables}
 use Rattle.tables.specs.Room.{roomy}
 use Rattle.tables.specs.Damage.{sound}
 use Rattle.tables.specs.Meaning.{meaning}
-use Rattle.demands.specs.Asks.{Ask, create, begin, query, read, update, delete, insert, commit, tidy, abort, callOf}
+use Rattle.demands.specs.Asks.{Ask, create, begin, query, span, read, update, delete, insert, commit, tidy, abort, callOf}
 
 -- 1: "clock, versions, heads, log, changes or sessions lent without room for its full limit"
 abbrev pub noRoom : Tables → Test
@@ -25,6 +25,7 @@ abbrev pub conditions : Tables → Ask → List Test
 conditions t (create C col) = noRoom t ∷ ruled t (create C col)
 conditions t (begin n) = noRoom t ∷ damaged t ∷ ruled t (begin n)
 conditions t (query scratch n v threshold) = noRoom t ∷ damaged t ∷ ruled t (query scratch n v threshold)
+conditions t (span list n a b) = noRoom t ∷ damaged t ∷ ruled t (span list n a b)
 conditions t (read n r) = noRoom t ∷ damaged t ∷ ruled t (read n r)
 conditions t (update n r v) = noRoom t ∷ damaged t ∷ ruled t (update n r v)
 conditions t (delete n r) = noRoom t ∷ damaged t ∷ ruled t (delete n r)

@@ -7,11 +7,11 @@ use mathlib.Core.Logic.{_↔_}
 use Prim.Native.Nat.{ℕ, _≤_, _<_}
 use lib.ListN.{length, drop}
 use Rattle.bits.specs.Rows.{Ascending}
-use Rattle.rules.specs.Calls.{Column, cell, Answer, refused, ok, value, listed}
+use Rattle.rules.specs.Calls.{Column, cell, Answer, refused, ok, value, listed, found}
 use Rattle.rules.specs.Refusals.{Test, First, badColumn}
 use Rattle.rules.specs.Step.{created}
 use Rattle.rules.specs.Plain.{Wish, sitting, Observer, visitor, columnAt}
-use Rattle.rules.specs.Demand.{Overtaken, Right}
+use Rattle.rules.specs.Demand.{Overtaken, HoldsOneOf, Right}
 use Rattle.rules.specs.Moved.{MovesRows}
 use Rattle.tables.specs.Cells.{Tables}
 use Rattle.tables.specs.Meaning.{meaning}
@@ -19,7 +19,7 @@ use Rattle.outcomes.specs.Said.{no}
 use Rattle.outcomes.specs.Calls.{columnOf}
 use Rattle.follow.specs.Good.{Good}
 use Rattle.follow.specs.Follows.{Follows}
-use Rattle.demands.specs.Asks.{Ask, create, begin, query, read, commit, tidy, callOf, buffersOf, comesTo, told, tablesAfter}
+use Rattle.demands.specs.Asks.{Ask, create, begin, query, span, read, commit, tidy, callOf, buffersOf, comesTo, told, tablesAfter}
 use Rattle.demands.specs.Conditions.{conditions}
 
 -- DEMAND 1, of any call on any tables. "Bad input is refused by document 01's numbers, always the smallest that applies; a
@@ -57,6 +57,9 @@ pub record DoesAsSaid (t : Tables) : Type 0 where
   -- "Every call answers and writes exactly what 01 says.": on tables that are not damaged, what any call leaves means document 01's
   -- next state, what its caller is told is document 01's answer, and the tables stay good
   pub steps : Good t → (a : Ask) → Follows t (callOf a) (comesTo t a)
+  -- a span of one value lists exactly what the query of that value lists
+  pub one-value : Good t → (list scratch : List ℕ) (n v threshold k : ℕ) (due : Bool) (rows own : List ℕ)
+      → told t (span list n v v) ≡ found rows → told t (query scratch n v threshold) ≡ listed k due own → rows ≡ own
   -- create asks nothing of the cells, so that this is of damaged tables too
   pub reads-back : (C : ℕ) (col : List ℕ) → badColumn C (columnOf col) ≡ false → (n : ℕ) → n < 16 → ReadsBack t C col n
 
@@ -67,6 +70,10 @@ pub record RightAt (t : Tables) (o : Observer) : Type 0 where
   pub queries : (scratch : List ℕ) (n v threshold k : ℕ) (due : Bool) (rows : List ℕ)
       → told t (query scratch n v threshold) ≡ listed k due rows → (since : ℕ) × (own : List Wish) × (visitor o n ≡ sitting since own)
       × ((r : ℕ) → List·Memᴰ r rows ↔ (cell (columnAt o since) r ≡ some v))
+  -- K1, "Demand 3 reads for a span as the union of its values": the rows holding one of them, each once
+  pub spans : (list : List ℕ) (n a b : ℕ) (rows : List ℕ) → told t (span list n a b) ≡ found rows
+      → (since : ℕ) × (own : List Wish) × (visitor o n ≡ sitting since own)
+      × ((r : ℕ) → List·Memᴰ r rows ↔ HoldsOneOf (columnAt o since) a b r) × Ascending rows
   -- the same for read
   pub reads : (n r : ℕ) (x : Option ℕ) → told t (read n r) ≡ value x
       → (since : ℕ) × (own : List Wish) × (visitor o n ≡ sitting since own) × (x ≡ cell (columnAt o since) r)

@@ -1,2 +1,2 @@
-// The three demands as three theorems about the definitions that the ten outer calls' contracts cite. There is no code here.
+// The three demands as three theorems about the definitions that the outer calls' contracts cite. There is no code here.
 // Assumes nothing.

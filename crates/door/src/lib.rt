@@ -1,5 +1,6 @@
-// The ten calls, of a program that holds its session table by value: each lends the table to the call of `index`, and hands back with the
-// answer the one session that the call may have changed; create, which may free all sixteen, hands back none. Assumes nothing.
+// The ten calls of the step program, which holds its session table by value: each lends the table to the call of `index`, and
+// hands back with the answer the one session that the call may have changed; create, which may free all sixteen, hands back none.
+// Assumes nothing.
 use outcomes::Answer;
 use tables::Session;
 ghost use mathlib.Core.Path.{_≡_};

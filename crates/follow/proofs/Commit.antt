@@ -241,12 +241,8 @@ module _ (t : Tables) (g : Good t) (s v : ℕ) (f : TidyFits t s v) where
         slot-low = f .slots-fit;
         slots-room = good-room t g .slots-room;
         words-room = good-room t g .words-room;
-        head-room = omega (
-          arith,
-          f .value-fits,
-          clock-limits (t .clock) (good-parts t g .clock-fits) .few-values,
-          good-room t g .heads-room,
-        );
+        head-room =
+            omega (arith, f .value-fits, clock-limits (t .clock) (good-parts t g .clock-fits) .few-values, good-room t g .heads-room);
         size = length-vec (queried (meaning t .log) (chain (meaning t .chains) v) s v) 32;
       }
 

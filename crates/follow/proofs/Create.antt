@@ -106,8 +106,7 @@ module _ (t : Tables) (C : ℕ) (col : Column) (f : Fresh t C col) where
         f .rows-are,
         f .stamp-is,
         f .slots-are,
-        tab-ext (chainAt (t .slots) (t .words) (t .heads))
-            (firstChain col) C chain-fresh,
+        tab-ext (chainAt (t .slots) (t .words) (t .heads)) (firstChain col) C chain-fresh,
         sessions-fresh,
       )
 
@@ -130,8 +129,7 @@ module _ (t : Tables) (C : ℕ) (col : Column) (f : Fresh t C col) where
             (λ v l. let k : v < C = omega (arith, f .values-are) in
             record {
               head-low = omega (arith, f .head-is v k, f .slots-are);
-              head-value = ap (slotValue (t .slots)) (f .head-is v k)
-                  ∙ f .value-is v k;
+              head-value = ap (slotValue (t .slots)) (f .head-is v k) ∙ f .value-is v k;
             });
         vectors-fit = vectors-made c (t .log) (t .slots) (t .words) (λ i l. clear i (omega (arith, f .slots-are)));
         sessions-fit =
@@ -188,8 +186,8 @@ holds-means col v r h =
 module _ (col d : List ℕ) (n v : ℕ) (l : v < 32) (few : length col ≤ 2048) (h : 32 * v + 32 ≤ n) where
   words-fresh : slotWords (over (vec (columnBit col) n) d) v ≡ vec (λ r. columnBit col (2048 * v + r)) 32
   unfolding slotWords vectorAt part
-  words-fresh = over-part (vec (columnBit col) n) d (32 * v) 32 (omega (arith, length-vec (columnBit col) n))
-      ∙ vectorAt-vec (columnBit col) n v h
+  words-fresh =
+      over-part (vec (columnBit col) n) d (32 * v) 32 (omega (arith, length-vec (columnBit col) n)) ∙ vectorAt-vec (columnBit col) n v h
 
   vector-fresh : (r : ℕ) → bitAt (slotWords (over (vec (columnBit col) n) d) v) r ≡ holds (cell (columnOf col) r) v
   unfolding columnBit
@@ -246,8 +244,7 @@ module _ (t : Tables) (room : Room t) (c : ℕ) (col : List ℕ) where
       let g = good-column c (columnOf col) e in
       let f = created-fresh (g .values-fit) (omega (arith, g .column-fits, length-map col valueOf)) in (
         fresh-means after c (columnOf col) f,
-        fresh-good after c (columnOf col) f created-room (g .some-value) (g .values-fit)
-            (g .column-fits),
+        fresh-good after c (columnOf col) f created-room (g .some-value) (g .values-fit) (g .column-fits),
       )
 
 -- ---- the call
@@ -256,7 +253,7 @@ module _ (t : Tables) (room : Room t) (c : ℕ) (col : List ℕ) where
 -- rules and good tables, and where it is not, the tables as they were
 pub record Creates (t : Tables) (c : ℕ) (col : List ℕ) (o : Outcome) : Type 0 where
   pub same-state : meaning (o .after) ≡ step (meaning t) (create c (columnOf col)) .0
-  pub same-answer : heard o ≡ step (meaning t) (create c (columnOf col)) .1
+  pub same-answer : heard (create c (columnOf col)) o ≡ step (meaning t) (create c (columnOf col)) .1
   pub accepted : badColumn c (columnOf col) ≡ false → (meaning (o .after) ≡ created c (columnOf col)) × Good (o .after)
   pub refused : badColumn c (columnOf col) ≡ true → o .after ≡ t
 

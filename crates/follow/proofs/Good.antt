@@ -15,7 +15,7 @@ use Rattle.bits.proofs.Cases.{eq-cases, lt-cases}
 use Rattle.rules.specs.Limits.{maxSessions}
 use Rattle.rules.specs.State.{opened, session, isFree, State}
 use Rattle.rules.specs.Step.{seated, effect, step}
-use Rattle.rules.specs.Calls.{Call, Answer}
+use Rattle.rules.specs.Calls.{Call, create, begin, query, span, read, update, delete, insert, commit, tidy, abort, Answer, refused}
 use Rattle.rules.specs.Refusals.{tests, refusal, AllFail}
 use Rattle.rules.proofs.Invariant.{Undamaged}
 use Rattle.rules.proofs.Tests.{all-fail}
@@ -32,7 +32,8 @@ use Rattle.tables.proofs.Means.{values-means, open-means, live-means}
 use Rattle.tables.proofs.Stores.{session-put}
 use Rattle.tables.proofs.Undamaged.{means-undamaged}
 use Rattle.outcomes.specs.Calls.{own, reseated}
-use Rattle.outcomes.specs.Outcome.{Outcome, refusalAt, unless}
+use Rattle.outcomes.specs.Said.{no}
+use Rattle.outcomes.specs.Outcome.{Outcome, outcome, refusalAt, unless}
 use Rattle.outcomes.proofs.Entered.{seat-means, seat-there}
 use Rattle.follow.specs.Good.{Wide, AllWide, Good}
 use Rattle.follow.specs.Heard.{heard}
@@ -134,13 +135,27 @@ pub record Accepted (t : Tables) (c : Call) : Type 0 where
 -- what is left to show of it
 pub record Meets (t : Tables) (c : Call) (o : Outcome) : Type 0 where
   pub same-state : meaning (o .after) ≡ effect (meaning t) c .0
-  pub same-answer : heard o ≡ effect (meaning t) c .1
+  pub same-answer : heard c o ≡ effect (meaning t) c .1
   pub stays-good : Good (o .after)
 
 -- the same by what the call comes to, and what the rules' effect comes to
 pub meets-by : (t : Tables) (c : Call) (o o′ : Outcome) (st : State) (a : Answer) → o ≡ o′ → effect (meaning t) c ≡ (st, a)
-    → meaning (o′ .after) ≡ st → heard o′ ≡ a → Good (o′ .after) → Meets t c o
+    → meaning (o′ .after) ≡ st → heard c o′ ≡ a → Good (o′ .after) → Meets t c o
 meets-by t c o o′ st a p q m h g = record { same-state = rw (p, q) m; same-answer = rw (p, q) h; stays-good = rw p g }
+
+-- of every call a number is heard as a refusal
+heard-no : (c : Call) (t : Tables) (bs : List (List ℕ)) (n : ℕ) → heard c (outcome t bs (no n)) ≡ refused n
+heard-no (create C col) t bs n = refl
+heard-no (begin i) t bs n = refl
+heard-no (query i v s m) t bs n = refl
+heard-no (span i a b m) t bs n = refl
+heard-no (read i r) t bs n = refl
+heard-no (update i r v) t bs n = refl
+heard-no (delete i r) t bs n = refl
+heard-no (insert i v) t bs n = refl
+heard-no (commit i) t bs n = refl
+heard-no (tidy i v) t bs n = refl
+heard-no (abort i) t bs n = refl
 
 module _ (t : Tables) (g : Good t) (c : Call) where
   -- neither 1 nor 2 is given: the number is the rules' own
@@ -164,4 +179,4 @@ module _ (t : Tables) (g : Good t) (c : Call) where
       go none e =
           let m = h (accepted e) in
           record { same-state = m .same-state ∙ rw e; same-answer = m .same-answer ∙ rw e; stays-good = m .stays-good }
-      go (some n) e = record { same-state = rw e; same-answer = rw e; stays-good = g }
+      go (some n) e = record { same-state = rw e; same-answer = heard-no c t bs n ∙ rw e; stays-good = g }

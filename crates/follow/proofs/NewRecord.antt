@@ -69,29 +69,15 @@ pub commit-clock : (c : List ℕ) (rows end : ℕ) → 6 ≤ length c
     → Later c (set (set (set c 2 (stampIn c + 1)) 3 rows) 5 end) rows (slotsIn c) end
 commit-clock c rows end =
     six (λ (l : List ℕ). Later l (set (set (set l 2 (stampIn l + 1)) 3 rows) 5 end) rows (slotsIn l) end)
-    (λ a b c d e f l. record {
-      values-kept = refl;
-      first-kept = refl;
-      stamp-next = refl;
-      rows-now = refl;
-      slots-now = refl;
-      changes-now
-          = refl;
-    }) c
+    (λ a b c d e f l.
+    record { values-kept = refl; first-kept = refl; stamp-next = refl; rows-now = refl; slots-now = refl; changes-now = refl }) c
 
 pub tidy-clock : (c : List ℕ) (rows slots end : ℕ) → 6 ≤ length c
     → Later c (set (set (set (set c 2 (stampIn c + 1)) 3 rows) 4 slots) 5 end) rows slots end
 tidy-clock c rows slots end =
     six (λ (l : List ℕ). Later l (set (set (set (set l 2 (stampIn l + 1)) 3 rows) 4 slots) 5 end) rows slots end)
-    (λ a b c d e f l. record {
-      values-kept = refl;
-      first-kept = refl;
-      stamp-next = refl;
-      rows-now = refl;
-      slots-now = refl;
-      changes-now
-          = refl;
-    }) c
+    (λ a b c d e f l.
+    record { values-kept = refl; first-kept = refl; stamp-next = refl; rows-now = refl; slots-now = refl; changes-now = refl }) c
 
 -- its sentence of "Damaged tables"
 pub clock-later : {c c′ : List ℕ} {rows slots end : ℕ} → Later c c′ rows slots end → clockFits c ≡ true → rows ≤ 2048 → stampIn c < 512
@@ -237,7 +223,8 @@ module _ {c c′ log : List ℕ} {kind rows slots end : ℕ} (k : NextRecord c c
   old-changes p l = changes-before changes (changesIn c) cs (omega arith) p l
 
   new-changes : stretch (changeAt (putChanges changes (changesIn c) cs)) (changesIn c) end ≡ cs
-  new-changes = ap (stretch (changeAt (putChanges changes (changesIn c) cs)) (changesIn c)) size
+  new-changes =
+      ap (stretch (changeAt (putChanges changes (changesIn c) cs)) (changesIn c)) size
       ∙ changes-put changes (changesIn c) cs (omega arith) room
 
   pub grown-means : tab (recordAt (newLog c log kind rows end) (putChanges changes (changesIn c) cs)) (stampIn c′)

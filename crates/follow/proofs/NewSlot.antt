@@ -42,13 +42,8 @@ pub record SameSlots (used : ℕ) (slots words slots′ words′ : List ℕ) : T
   pub words-same : (i : ℕ) → i < used → slotWords words′ i ≡ slotWords words i
 
 pub same-slots : (used : ℕ) (slots words : List ℕ) → SameSlots used slots words slots words
-same-slots used slots words = record {
-  value-same = λ i l. refl;
-  stamp-same = λ i l. refl;
-  link-same = λ i l. refl;
-  words-same = λ i l.
-      refl;
-}
+same-slots used slots words =
+    record { value-same = λ i l. refl; stamp-same = λ i l. refl; link-same = λ i l. refl; words-same = λ i l. refl }
 
 module _ {used : ℕ} {slots words slots′ words′ : List ℕ} (same : SameSlots used slots words slots′ words′) where
   -- the same versions
@@ -170,12 +165,12 @@ module _ {c slots words heads : List ℕ} {v : ℕ} {ws : List ℕ} (k : NextSlo
   slots-same =
       let link = headOf heads v + 1 in
       record {
-        value-same = λ i l. kept-value slots (slotsIn c) v (stampIn c + 1) link (k .slot-low) i (omega (arith, k .slot-low))
-            (λ e. omega arith);
-        stamp-same = λ i l. kept-stamp slots (slotsIn c) v (stampIn c + 1) link (k .slot-low) i (omega (arith, k .slot-low))
-            (λ e. omega arith);
-        link-same = λ i l. kept-link slots (slotsIn c) v (stampIn c + 1) link (k .slot-low) i (omega (arith, k .slot-low))
-            (λ e. omega arith);
+        value-same =
+            λ i l. kept-value slots (slotsIn c) v (stampIn c + 1) link (k .slot-low) i (omega (arith, k .slot-low)) (λ e. omega arith);
+        stamp-same =
+            λ i l. kept-stamp slots (slotsIn c) v (stampIn c + 1) link (k .slot-low) i (omega (arith, k .slot-low)) (λ e. omega arith);
+        link-same =
+            λ i l. kept-link slots (slotsIn c) v (stampIn c + 1) link (k .slot-low) i (omega (arith, k .slot-low)) (λ e. omega arith);
         words-same = λ i l. words-kept words (slotsIn c) ws (k .size) (k .slot-low) (k .words-room) i l;
       }
 
@@ -213,8 +208,7 @@ module _ {c slots words heads : List ℕ} {v : ℕ} {ws : List ℕ} (k : NextSlo
               arith,
               new-stamp,
               slots-same .stamp-same (headOf heads v) (h .head-low),
-              slot-stamp-low c slots (k .slots-fit)
-                  (headOf heads v) (h .head-low),
+              slot-stamp-low c slots (k .slots-fit) (headOf heads v) (h .head-low),
             ));
       }
 
@@ -230,8 +224,7 @@ module _ {c slots words heads : List ℕ} {v : ℕ} {ws : List ℕ} (k : NextSlo
           let o = head w l in
           record {
             head-low = omega (arith, h, o .head-low);
-            head-value = rw h (slots-same .value-same (headOf heads w) (o .head-low)
-                ∙ o .head-value);
+            head-value = rw h (slots-same .value-same (headOf heads w) (o .head-low) ∙ o .head-value);
           }
 
 -- the version that the new slot holds
@@ -268,8 +261,8 @@ module _ {c slots words heads : List ℕ} {v : ℕ} {ws : List ℕ} (k : NextSlo
       ∙ old-chain (slotsIn c) (old + 1) old h h (omega arith))
 
   -- the chain of another value
-  chain-other : (w : ℕ) → w < valuesIn c → w ≢ v → chainAt (newSlots c slots heads v) (newWords c words ws) (newHeads c heads v) w
-      ≡ chainAt slots words heads w
+  chain-other : (w : ℕ) → w < valuesIn c → w ≢ v
+      → chainAt (newSlots c slots heads v) (newWords c words ws) (newHeads c heads v) w ≡ chainAt slots words heads w
   unfolding chainAt
   chain-other w l d =
       ap (λ (i : ℕ). chainFrom (newSlots c slots heads v) (newWords c words ws) (i + 1) i) (kept-head heads v (slotsIn c) w d)

@@ -1,4 +1,5 @@
--- Query and read follow the rules: the tables stay, and the words that the picker returns show exactly the rules' rows.
+-- Query, span and read follow the rules: the tables stay, and the words that the picker returns, or the cells of the list, show exactly
+-- the rules' rows.
 use mathlib.Core.Path.{_≡_, sym, ap, _∙_, refl}
 use mathlib.Core.Bool.{Bool, false, cond}
 use mathlib.Core.Option.{none, some}
@@ -23,7 +24,7 @@ use Rattle.bits.specs.Words.{bitAt}
 use Rattle.rules.specs.Limits.{maxRows, vectorWords}
 use Rattle.rules.specs.State.{session, startOf, chain}
 use Rattle.rules.specs.Versions.{versionAt, flipped, queried, queriedRows}
-use Rattle.rules.specs.Calls.{query, listed, read}
+use Rattle.rules.specs.Calls.{query, span, listed, found, read}
 use Rattle.rules.specs.Refusals.{tests, readIn}
 use Rattle.rules.specs.Step.{querying, effect}
 use Rattle.rules.proofs.Small.{xorb-false}
@@ -36,10 +37,11 @@ use Rattle.history.specs.Version.{slotSeen}
 use Rattle.history.proofs.Meets.{seen-used, vector-meets}
 use Rattle.outcomes.specs.Said.{words, value}
 use Rattle.outcomes.specs.Query.{rowsSeen, flipsSeen, asked, queryOf, pickedFrom}
+use Rattle.outcomes.specs.Span.{rowsOfSpan, listedSpan, spanOf}
 use Rattle.outcomes.specs.Outcome.{outcome}
 use Rattle.outcomes.specs.Calls.{readOf}
 use Rattle.follow.specs.Good.{Good}
-use Rattle.follow.specs.Heard.{heard}
+use Rattle.follow.specs.Heard.{heardPicked}
 use Rattle.follow.specs.Follows.{Follows}
 use Rattle.follow.proofs.Good.{good-room, good-parts, follows, value-low}
 
@@ -90,12 +92,12 @@ module _ (t : Tables) (g : Good t) (s v : ℕ) (below : v < valuesIn (t .clock))
 
   -- what is asked is answered
   answered : (threshold : ℕ) → 32 ≤ length scratch
-      → heard (asked t scratch s v threshold) ≡ querying (meaning t) s v threshold
+      → heardPicked (asked t scratch s v threshold) ≡ querying (meaning t) s v threshold
   unfolding asked
   answered threshold room = go (eq-cases (flipsSeen t s v) 0)
     where
       go : (flipsSeen t s v ≡ 0) ⊎ (flipsSeen t s v ≡ 0 → ⊥)
-          → heard (asked t scratch s v threshold) ≡ querying (meaning t) s v threshold
+          → heardPicked (asked t scratch s v threshold) ≡ querying (meaning t) s v threshold
       go (inl z) =
           rw (eq-eqb (flipsSeen t s v) 0 z) (ap (listed 0 false) (own-rows z) ∙ rw (z, le-ltb threshold 0 zero-le))
       go (inr d) = rw (ne-eqb (flipsSeen t s v) 0 d) (ap (listed (flipsSeen t s v) (ltb threshold (flipsSeen t s v))) (turned-rows room))
@@ -126,6 +128,15 @@ query-follows t g scratch n v threshold =
       same-answer = answered t g s v below scratch threshold (room-for (length scratch) (a .fail .1 .1 .1 .0));
       stays-good = rw after g;
     })
+
+-- the list's first cells are the rows
+pub span-follows : (t : Tables) → Good t → (list : List ℕ) (n a b : ℕ) → Follows t (span n a b (length list)) (spanOf t list n a b)
+unfolding spanOf listedSpan effect
+span-follows t g list n a b =
+    let s = startOf (session (meaning t) n) in
+    let rows = rowsOfSpan t s a b in
+    follows t g (span n a b (length list)) (list ∷ []) (listedSpan t list s a b)
+    (λ x. record { same-state = refl; same-answer = ap found (take-at rows (drop (length rows) list) (length rows) refl); stays-good = g })
 
 pub read-follows : (t : Tables) → Good t → (n r : ℕ) → Follows t (read n r) (readOf t n r)
 unfolding readOf effect

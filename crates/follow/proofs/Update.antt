@@ -33,8 +33,10 @@ use Rattle.tables.proofs.Sessions.{EntryCases, OpenFacts, open-rows-few}
 use Rattle.tables.proofs.Fits.{entry-add, entry-alter, target-some, target-none}
 use Rattle.tables.proofs.Means.{length-entries, open-means}
 use Rattle.tables.proofs.Facts.{clock-limits}
+use Rattle.outcomes.specs.Outcome.{Outcome}
 use Rattle.outcomes.specs.Calls.{orPlace, spotOf, listedAt, own, putBack, updateOf, deleteOf, insertOf}
 use Rattle.follow.specs.Good.{Wide, Good}
+use Rattle.follow.specs.Heard.{heardPicked, heard}
 use Rattle.follow.specs.Follows.{Follows}
 use Rattle.follow.proofs.Good.{good-parts, good-seated, Meets, meets-by, follows, Open, seated-means, value-low, open-seat}
 
@@ -99,8 +101,8 @@ entries-past x at to w l =
 -- a place in a list, or after it, where an entry may stand: no other entry has its row
 module _ (values first stamp : ℕ) (log : List ℕ) (x : Session) (f : OpenFacts values first stamp log x) (w : Wide x) (p at to : ℕ)
     (l : p < 32) (h : p ≤ x .count)
-    (fits : EntryCases values (x .rows .0) at to) (alone : (at ≡ 65535 → ⊥) → (j : ℕ) → j < x .count → j ≢ p → getD (x .at) j 0 ≡ at
-    → ⊥) where
+    (fits : EntryCases values (x .rows .0) at to)
+    (alone : (at ≡ 65535 → ⊥) → (j : ℕ) → j < x .count → j ≢ p → getD (x .at) j 0 ≡ at → ⊥) where
   abbrev y : Session
   y = listedAt x p at to
 
@@ -234,18 +236,19 @@ module _ (t : Tables) (g : Good t) (n : ℕ) (o : Open t n) where
   x = own t n
 
   -- a call that lists es, where the cells of the changed list mean es and fit
-  pub relisted-meets : (p at to : ℕ) (c : Call) (es : List Entry)
+  pub relisted-meets : (p at to : ℕ) (c : Call) (es : List Entry) → ((o : Outcome) → heard c o ≡ heardPicked o)
       → effect (meaning t) c ≡ rules.relisted (meaning t) n (session (meaning t) n) es
       → entries (listedAt x p at to) ≡ es
       → OpenFacts (valuesIn (t .clock)) (firstIn (t .clock)) (stampIn (t .clock)) (t .log) (listedAt x p at to)
       → Meets t c (putBack t n (listedAt x p at to))
   unfolding withEntry
-  relisted-meets p at to c es e q f =
+  relisted-meets p at to c es picked e q f =
       let y = listedAt x p at to in
       meets-by t c (putBack t n y) (putBack t n y) (seated (meaning t) n (opened (x .start .0) (x .rows .0) es)) (ok (length es ∷ [])) refl
-      (rw (o .means) at e) (seated-means t n (o .place) g y
-      ∙ ap (seated (meaning t) n) (open-means y (f .live-one) ∙ ap (opened (x .start .0) (x .rows .0)) q))
-      (ap (λ (k : ℕ). ok (k ∷ [])) (sym (length-entries y) ∙ ap length q)) (good-seated t n y g (listed-wide x p at to (o .wide)) (inr f))
+      (rw (o .means) at e)
+      (seated-means t n (o .place) g y ∙ ap (seated (meaning t) n) (open-means y (f .live-one) ∙ ap (opened (x .start .0) (x .rows .0)) q))
+      (picked (putBack t n y) ∙ ap (λ (k : ℕ). ok (k ∷ [])) (sym (length-entries y) ∙ ap length q))
+      (good-seated t n y g (listed-wide x p at to (o .wide)) (inr f))
 
   -- a change of a row
   module _ (r : ℕ) (row-low : leb (rowsOf (session (meaning t) n)) r ≡ false)
@@ -254,21 +257,18 @@ module _ (t : Tables) (g : Good t) (n : ℕ) (o : Open t n) where
     inside = leb-false (x .rows .0) r (rw (o .means) at row-low)
 
     no-insert : r ≡ 65535 → ⊥
-    no-insert e = omega (
-      arith,
-      inside,
-      open-rows-few (t .clock) (t .log) (good-parts t g .clock-fits) (good-parts t g .records-fit) x
-          (o .facts),
-    )
+    no-insert e =
+        omega (arith, inside, open-rows-few (t .clock) (t .log) (good-parts t g .clock-fits) (good-parts t g .records-fit) x (o .facts))
 
     low : spotOf x r < 32
     low = spot-low x r no-insert (o .facts .count-low) (rw (o .means) at room)
 
-    pub change-meets : (to : ℕ) → (to < valuesIn (t .clock)) ⊎ (to ≡ 255) → (c : Call) (target : Option ℕ) → targetOf to ≡ target
+    pub change-meets : (to : ℕ) → (to < valuesIn (t .clock)) ⊎ (to ≡ 255) → (c : Call) (target : Option ℕ)
+        → ((o : Outcome) → heard c o ≡ heardPicked o) → targetOf to ≡ target
         → effect (meaning t) c ≡ rules.relisted (meaning t) n (session (meaning t) n) (put (listOf (session (meaning t) n)) r target)
         → Meets t c (putBack t n (listedAt x (spotOf x r) r to))
-    change-meets to fits c target z e =
-        relisted-meets (spotOf x r) r to c (put (listOf (session (meaning t) n)) r target) e
+    change-meets to fits c target picked z e =
+        relisted-meets (spotOf x r) r to c (put (listOf (session (meaning t) n)) r target) picked e
         (rw (o .means) (entries-put x r no-insert to (o .wide) low ∙ ap (put (entries x) r) z))
         (listed-fits (valuesIn (t .clock)) (firstIn (t .clock)) (stampIn (t .clock)) (t .log) x (o .facts) (o .wide) (spotOf x r) r to low
         (spot-of x r .within)
@@ -280,7 +280,8 @@ update-follows t g n r v =
     follows t g (update n r v) [] (putBack t n (listedAt (own t n) (spotOf (own t n) r) r v))
     (λ a. let f = a .fail in
     let l = value-low t v (f .1 .1 .0) in
-    change-meets t g n (open-seat t n g (f .0) (f .1 .0)) r (f .1 .1 .1 .0) (f .1 .1 .1 .1 .1 .0) v (inl l) (update n r v) (some v)
+    change-meets t g n (open-seat t n g (f .0) (f .1 .0)) r (f .1 .1 .1 .0) (f .1 .1 .1 .1 .1 .0) v (inl l) (update n r v)
+    (some v) (λ o. refl)
     (target-some v (λ e. omega (arith, l, clock-limits (t .clock) (good-parts t g .clock-fits) .few-values))) refl)
 
 pub delete-follows : (t : Tables) → Good t → (n r : ℕ) → Follows t (delete n r) (deleteOf t n r)
@@ -288,7 +289,7 @@ unfolding deleteOf tests effect
 delete-follows t g n r =
     follows t g (delete n r) [] (putBack t n (listedAt (own t n) (spotOf (own t n) r) r 255))
     (λ a. let f = a .fail in
-    change-meets t g n (open-seat t n g (f .0) (f .1 .0)) r (f .1 .1 .0) (f .1 .1 .1 .1 .0) 255 (inr refl) (delete n r) none
+    change-meets t g n (open-seat t n g (f .0) (f .1 .0)) r (f .1 .1 .0) (f .1 .1 .1 .1 .0) 255 (inr refl) (delete n r) none (λ o. refl)
     (target-none 255 refl) refl)
 
 module _ (t : Tables) (g : Good t) (n v : ℕ) where
@@ -299,7 +300,7 @@ module _ (t : Tables) (g : Good t) (n v : ℕ) where
       let x = own t n in
       let few : length (entries x) < 32 = leb-false 32 (length (entries x)) (rw (o .means) at full) in
       let low : x .count < 32 = omega (arith, length-entries x) in
-      relisted-meets t g n o (x .count) 65535 v (insert n v) (listOf (session (meaning t) n) ++ (add v ∷ [])) refl
+      relisted-meets t g n o (x .count) 65535 v (insert n v) (listOf (session (meaning t) n) ++ (add v ∷ [])) (λ o. refl) refl
       (rw (o .means) (entries-past x 65535 v (o .wide) low ∙ ap (λ (e : Entry). entries x ++ (e ∷ [])) (entry-add 65535 v refl)))
       (listed-fits (valuesIn (t .clock)) (firstIn (t .clock)) (stampIn (t .clock)) (t .log) x (o .facts) (o .wide) (x .count) 65535 v low
       (omega arith) (inr (refl, l))

@@ -12,5 +12,5 @@ use Rattle.follow.specs.Heard.{heard}
 -- answer, and the tables stay good
 pub record Follows (t : Tables) (c : Call) (o : Outcome) : Type 0 where
   pub same-state : meaning (o .after) ≡ step (meaning t) c .0
-  pub same-answer : heard o ≡ step (meaning t) c .1
+  pub same-answer : heard c o ≡ step (meaning t) c .1
   pub stays-good : Good (o .after)

@@ -41,22 +41,23 @@ use Rattle.outcomes.specs.Calls.{own, reseated, beginning, createOf, beginOf, r
 use Rattle.outcomes.specs.Calls.{abortOf}
 use Rattle.outcomes.specs.Query.{rowsSeen, flipsSeen, queryOf}
 use Rattle.outcomes.specs.Query as calls
-use Rattle.follow.specs.Heard.{heard}
-use Rattle.demands.specs.Asks.{Ask, create, begin, query, read, update, delete, insert, commit, tidy, abort, comesTo}
+use Rattle.outcomes.specs.Span.{listedSpan, spanOf}
+use Rattle.follow.specs.Heard.{heardPicked}
+use Rattle.demands.specs.Asks.{Ask, create, begin, query, span, read, update, delete, insert, commit, tidy, abort, comesTo, told}
 use Rattle.door.specs.Accepts.{accepts}
 use Rattle.lines.specs.declared.sessions.Left.{Left}
 use Rattle.lines.specs.Left.{leaves, left, leftAt}
 use Rattle.lines.specs.Turn.{turn, byteFor, askWith, scratchAfter, made, turnOf, heardFrom, Turned}
 
--- ---- what a caller hears of a call is what is heard where its words and the program's scratch stand
+-- ---- what a caller hears of a call other than a span is what is heard where its words and the program's scratch stand
 
 pub record Sure (o : Outcome) : Type 0 where
-  pub same : (s : List ℕ) → heard o ≡ heardFrom (o .after .words) (scratchAfter s (o .buffers)) (o .answer)
+  pub same : (s : List ℕ) → heardPicked o ≡ heardFrom (o .after .words) (scratchAfter s (o .buffers)) (o .answer)
 
 -- numbers, a row's value, and words where a scratch was lent
-sure-numbers : (t : Tables) (ns : List ℕ) → Sure (outcome t [] (numbers ns))
+sure-numbers : (t : Tables) (bs : List (List ℕ)) (ns : List ℕ) → Sure (outcome t bs (numbers ns))
 unfolding heardFrom
-sure-numbers t ns = record { same = λ s. refl }
+sure-numbers t bs ns = record { same = λ s. refl }
 
 sure-value : (t : Tables) (x : Option ℕ) → Sure (outcome t [] (value x))
 unfolding heardFrom
@@ -81,7 +82,7 @@ begin-sure t n x =
     sure-either (eqb (x .live) 1) (outcome t [] (numbers (x .start .0 ∷ x .rows .0 ∷ [])))
     (outcome (reseated t n (begun (clockIn (t .clock) .stamp) (clockIn (t .clock) .rows))) []
     (numbers (stampIn (t .clock) ∷ rowsIn (t .clock) ∷ [])))
-    (sure-numbers _ _) (sure-numbers _ _)
+    (sure-numbers _ _ _) (sure-numbers _ _ _)
 
 query-sure : (t : Tables) (ws : List ℕ) (k v threshold : ℕ) → Sure (calls.asked t ws k v threshold)
 unfolding calls.asked
@@ -91,26 +92,31 @@ query-sure t ws k v threshold =
     (outcome t (over (vec (rowsSeen t k v) 32) ws ∷ []) (words n (ltb threshold n) none)) (sure-words _ _ _ _ _) (sure-words _ _ _ _ _)
 
 all-sure : (t : Tables) (q : Ask) → Sure (comesTo t q)
-unfolding createOf beginOf queryOf readOf updateOf deleteOf insertOf commitOf tidyOf abortOf
-all-sure t (create c col) = sure-unless _ t [] _ (sure-numbers _ _)
+unfolding createOf beginOf queryOf spanOf listedSpan readOf updateOf deleteOf insertOf commitOf tidyOf abortOf
+all-sure t (create c col) = sure-unless _ t [] _ (sure-numbers _ _ _)
 all-sure t (begin n) = sure-unless _ t [] _ (begin-sure t n (own t n))
 all-sure t (query ws n v threshold) = sure-unless _ t (ws ∷ []) _ (query-sure t ws (startOf (session (meaning t) n)) v threshold)
+all-sure t (span list n a b) = sure-unless _ t (list ∷ []) _ (sure-numbers _ _ _)
 all-sure t (read n r) = sure-unless _ t [] _ (sure-value _ _)
-all-sure t (update n r v) = sure-unless _ t [] _ (sure-numbers _ _)
-all-sure t (delete n r) = sure-unless _ t [] _ (sure-numbers _ _)
-all-sure t (insert n v) = sure-unless _ t [] _ (sure-numbers _ _)
-all-sure t (commit n) = sure-unless _ t [] _ (sure-numbers _ _)
-all-sure t (tidy n v) = sure-unless _ t [] _ (sure-numbers _ _)
-all-sure t (abort n) = sure-unless _ t [] _ (sure-numbers _ _)
+all-sure t (update n r v) = sure-unless _ t [] _ (sure-numbers _ _ _)
+all-sure t (delete n r) = sure-unless _ t [] _ (sure-numbers _ _ _)
+all-sure t (insert n v) = sure-unless _ t [] _ (sure-numbers _ _ _)
+all-sure t (commit n) = sure-unless _ t [] _ (sure-numbers _ _ _)
+all-sure t (tidy n v) = sure-unless _ t [] _ (sure-numbers _ _ _)
+all-sure t (abort n) = sure-unless _ t [] _ (sure-numbers _ _ _)
 
--- a call that was made, where the request asks for it
+-- so it is of every call but a span
+abbrev Picks : Tables → Ask → Type 0
+Picks t q = told t q ≡ heardPicked (comesTo t q)
+
+-- such a call that was made, where the request asks for it
 call-turns : (t t′ : Tables) (bs : List (List ℕ)) (a : Said) (s : List ℕ) (q : Ask) (c : Option Call) → outcome t′ bs a ≡ comesTo t q
-    → turnOf t s c ≡ made t s q → Turned t t′ s (scratchAfter s bs) c a
+    → Picks t q → turnOf t s c ≡ made t s q → Turned t t′ s (scratchAfter s bs) c a
 unfolding made
-call-turns t t′ bs a s q c e k =
+call-turns t t′ bs a s q c e h k =
     ap (λ (o : Outcome).
     turn (o .after) (scratchAfter s (o .buffers)) (heardFrom (o .after .words) (scratchAfter s (o .buffers)) (o .answer))) e
-    ∙ ap (turn (comesTo t q .after) (scratchAfter s (comesTo t q .buffers))) (sym (all-sure t q .same s)) ∙ sym k
+    ∙ ap (turn (comesTo t q .after) (scratchAfter s (comesTo t q .buffers))) (sym (h ∙ all-sure t q .same s)) ∙ sym k
 
 -- ---- the bytes of a column
 
@@ -213,10 +219,10 @@ module _ (clock₀ slots₀ ws₀ heads₀ log₀ changes₀ clock slots ws head
 
   -- a call that left these sessions
   turns : (us : List Session) (bs : List (List ℕ)) (k : Ask) → outcome (after us) bs (said told) ≡ comesTo t k → answer ≡ told
-      → leaves ts l ≡ us → turnOf t s (asked wish column) ≡ made t s k → Done (scratchAfter s bs)
-  turns us bs k e a f c =
+      → leaves ts l ≡ us → Picks t k → turnOf t s (asked wish column) ≡ made t s k → Done (scratchAfter s bs)
+  turns us bs k e a f h c =
       call-turns t (after (leaves ts l)) bs (said answer) s k (asked wish column)
-      (ap₂ (λ (vs : List Session) (b : core.Answer). outcome (after vs) bs (said b)) f a ∙ e) c
+      (ap₂ (λ (vs : List Session) (b : core.Answer). outcome (after vs) bs (said b)) f a ∙ e) h c
 
   pub create-turns : length ts ≡ 16 → wish .word ≡ word.Column
       → outcome (after (allFreed ts (accepts (said told)))) [] (said told) ≡ createOf t (wish .a) (take (wish .b) column) → answer ≡ told
@@ -224,7 +230,7 @@ module _ (clock₀ slots₀ ws₀ heads₀ log₀ changes₀ clock slots ws head
   unfolding askedBy turnOf askWith scratchAfter
   create-turns n p e a f g =
       turns (allFreed ts (accepts (said told))) [] (create (wish .a) (take (wish .b) column)) e a (none-left ts l _ f g ∙ all-freed ts _ n)
-      (by-word word.Column p ∙ ap (λ (col : List ℕ). made t s (create (wish .a) col)) (bytes-again (take (wish .b) column)))
+      refl (by-word word.Column p ∙ ap (λ (col : List ℕ). made t s (create (wish .a) col)) (bytes-again (take (wish .b) column)))
 
   pub none-turns : wish .word ≡ word.Unknown → said answer ≡ no 19 → l .put ≡ false → l .anew ≡ false
       → Turned t (tables clock₀ slots₀ ws₀ heads₀ log₀ changes₀ (leaves ts l)) s s (asked wish column) (said answer)
@@ -239,53 +245,53 @@ module _ (clock₀ slots₀ ws₀ heads₀ log₀ changes₀ clock slots ws head
     About bs o = outcome (after (putAt ts (wish .a) x)) bs (said told) ≡ o
 
     one : (bs : List (List ℕ)) (k : Ask) → About bs (comesTo t k) → answer ≡ told → l ≡ leftAt (wish .a) x
-        → turnOf t s (asked wish column) ≡ made t s k → Done (scratchAfter s bs)
-    one bs k e a f c = turns (putAt ts (wish .a) x) bs k e a (ap (leaves ts) f ∙ one-left ts (wish .a) x) c
+        → Picks t k → turnOf t s (asked wish column) ≡ made t s k → Done (scratchAfter s bs)
+    one bs k e a f h c = turns (putAt ts (wish .a) x) bs k e a (ap (leaves ts) f ∙ one-left ts (wish .a) x) h c
 
     pub query-turns : (s′ : List ℕ) → wish .word ≡ word.Query → About (s′ ∷ []) (queryOf t s (wish .a) (wish .b) 8) → answer ≡ told
         → l ≡ leftAt (wish .a) x → Done s′
     unfolding askedBy turnOf askWith scratchAfter usualThreshold
-    query-turns s′ p e a f = one (s′ ∷ []) (query s (wish .a) (wish .b) 8) e a f (by-word word.Query p)
+    query-turns s′ p e a f = one (s′ ∷ []) (query s (wish .a) (wish .b) 8) e a f refl (by-word word.Query p)
 
     pub begin-turns : wish .word ≡ word.Begin → About [] (beginOf t (wish .a)) → answer ≡ told
         → l ≡ leftAt (wish .a) x → Done s
     unfolding askedBy turnOf askWith scratchAfter
-    begin-turns p e a f = one [] (begin (wish .a)) e a f (by-word word.Begin p)
+    begin-turns p e a f = one [] (begin (wish .a)) e a f refl (by-word word.Begin p)
 
     pub read-turns : wish .word ≡ word.Read → About [] (readOf t (wish .a) (wish .b)) → answer ≡ told
         → l ≡ leftAt (wish .a) x → Done s
     unfolding askedBy turnOf askWith scratchAfter
-    read-turns p e a f = one [] (read (wish .a) (wish .b)) e a f (by-word word.Read p)
+    read-turns p e a f = one [] (read (wish .a) (wish .b)) e a f refl (by-word word.Read p)
 
     pub update-turns : wish .word ≡ word.Update → About [] (updateOf t (wish .a) (wish .b) (wish .c)) → answer ≡ told
         → l ≡ leftAt (wish .a) x → Done s
     unfolding askedBy turnOf askWith scratchAfter
-    update-turns p e a f = one [] (update (wish .a) (wish .b) (wish .c)) e a f (by-word word.Update p)
+    update-turns p e a f = one [] (update (wish .a) (wish .b) (wish .c)) e a f refl (by-word word.Update p)
 
     pub delete-turns : wish .word ≡ word.Delete → About [] (deleteOf t (wish .a) (wish .b)) → answer ≡ told
         → l ≡ leftAt (wish .a) x → Done s
     unfolding askedBy turnOf askWith scratchAfter
-    delete-turns p e a f = one [] (delete (wish .a) (wish .b)) e a f (by-word word.Delete p)
+    delete-turns p e a f = one [] (delete (wish .a) (wish .b)) e a f refl (by-word word.Delete p)
 
     pub insert-turns : wish .word ≡ word.Insert → About [] (insertOf t (wish .a) (wish .b)) → answer ≡ told
         → l ≡ leftAt (wish .a) x → Done s
     unfolding askedBy turnOf askWith scratchAfter
-    insert-turns p e a f = one [] (insert (wish .a) (wish .b)) e a f (by-word word.Insert p)
+    insert-turns p e a f = one [] (insert (wish .a) (wish .b)) e a f refl (by-word word.Insert p)
 
     pub commit-turns : wish .word ≡ word.Commit → About [] (commitOf t (wish .a)) → answer ≡ told
         → l ≡ leftAt (wish .a) x → Done s
     unfolding askedBy turnOf askWith scratchAfter
-    commit-turns p e a f = one [] (commit (wish .a)) e a f (by-word word.Commit p)
+    commit-turns p e a f = one [] (commit (wish .a)) e a f refl (by-word word.Commit p)
 
     pub tidy-turns : wish .word ≡ word.Tidy → About [] (tidyOf t (wish .a) (wish .b)) → answer ≡ told
         → l ≡ leftAt (wish .a) x → Done s
     unfolding askedBy turnOf askWith scratchAfter
-    tidy-turns p e a f = one [] (tidy (wish .a) (wish .b)) e a f (by-word word.Tidy p)
+    tidy-turns p e a f = one [] (tidy (wish .a) (wish .b)) e a f refl (by-word word.Tidy p)
 
     pub abort-turns : wish .word ≡ word.Abort → About [] (abortOf t (wish .a)) → answer ≡ told
         → l ≡ leftAt (wish .a) x → Done s
     unfolding askedBy turnOf askWith scratchAfter
-    abort-turns p e a f = one [] (abort (wish .a)) e a f (by-word word.Abort p)
+    abort-turns p e a f = one [] (abort (wish .a)) e a f refl (by-word word.Abort p)
 
 -- sixteen free sessions
 pub free-each : (x : Session) → x ≡ freed → replicate 16 x ≡ replicate 16 freed

@@ -11,7 +11,7 @@ use Rattle.tables.specs.Cells.{Tables}
 use Rattle.outcomes.specs.Said.{Said}
 use Rattle.outcomes.specs.Query.{pickedFrom}
 use Rattle.follow.specs.Heard.{heardWith}
-use Rattle.demands.specs.Asks.{Ask, create, begin, query, read, update, delete, insert, commit, tidy, abort, comesTo, told}
+use Rattle.demands.specs.Asks.{Ask, create, begin, query, span, read, update, delete, insert, commit, tidy, abort, comesTo, told}
 
 -- the tables afterwards, the scratch afterwards, and the answer
 pub record Turn : Type 0 where
@@ -27,11 +27,13 @@ unfoldable pub byteFor : Option ℕ → ℕ
 byteFor none = 255
 byteFor (some v) = v
 
--- a call of the rules as it is made on lent tables; a query is lent this scratch
+-- a call of the rules as it is made on lent tables; a query is lent this scratch. A span has no word, so no line asks for one: it is lent
+-- the scratch as its list, only so that each call has its case here
 unfoldable pub askWith : List ℕ → Call → Ask
 askWith s (rules.create c col) = create c (map byteFor col)
 askWith s (rules.begin n) = begin n
 askWith s (rules.query n v threshold size) = query s n v threshold
+askWith s (rules.span n a b size) = span s n a b
 askWith s (rules.read n r) = read n r
 askWith s (rules.update n r v) = update n r v
 askWith s (rules.delete n r) = delete n r

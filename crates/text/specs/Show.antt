@@ -5,7 +5,7 @@ use mathlib.Core.Option.{none, some}
 use Prim.Native.Nat.{ℕ, zero, suc, _+_, _/_, _%_}
 use lib.Dec.{ltb}
 use lib.ListN.{length}
-use Rattle.rules.specs.Calls.{Answer, refused, ok, value, listed}
+use Rattle.rules.specs.Calls.{Answer, refused, ok, value, listed, found}
 use Rattle.text.specs.Bytes.{bytes}
 use Rattle.text.specs.Split.{space}
 
@@ -25,9 +25,12 @@ spaced [] = []
 spaced (n ∷ ns) = space ∷ decimal n ++ spaced ns
 
 -- "Answers: `ok` and numbers, or `no N`. .. Query: flip count, due (1 or 0), number of rows, the rows ascending. Read: value or `-`."
+-- A span of values has no word in the step program, so no line is answered by what it found: it is shown as a query, less flip
+-- count and due.
 unfoldable pub show : Answer → List ℕ
 show (refused n) = bytes "no" ++ spaced (n ∷ [])
 show (ok ns) = bytes "ok" ++ spaced ns
 show (value none) = bytes "ok -"
 show (value (some v)) = bytes "ok" ++ spaced (v ∷ [])
+show (found rows) = bytes "ok" ++ spaced (length rows ∷ rows)
 show (listed flips due rows) = bytes "ok" ++ spaced (flips ∷ cond due 1 0 ∷ length rows ∷ rows)
