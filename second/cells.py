@@ -1,4 +1,4 @@
-"""The ten calls and the picker over lent tables, as lists of numbers: the answer, and every cell afterwards.
+"""The eleven calls and the picker over lent tables, as lists of numbers: the answer, and every cell afterwards.
 
 `Lent` holds the tables. A call first asks number 1 (room) and number 2 (damage, a function for each sentence of 01's
 list), both on the cells as they are. Tables that pass are turned into the model of rules.py, whose refusals and
@@ -12,7 +12,8 @@ from 1,536; changes by column, rows from 0, flip sets from 2,048; a session is l
 two lists of 32, in which the row 65,535 is an insert and the target 255 is absent.
 
 An answer is a tuple: ("no", N), ("count", n), ("stamp", s, n), ("value", v), ("absent",), ("query", flips, due, place).
-A query's place is 0 for the scratch and k + 1 for the words of slot k.
+A query's place is 0 for the scratch and k + 1 for the words of slot k. A span's rows stand in the list that is lent to it, a
+list of 16-bit numbers of any length, and its answer is their count.
 """
 
 from rules import Index
@@ -329,6 +330,16 @@ def query(t, scratch, session, value, threshold):
     return ("query", flips, due, 0)
 
 
+def span(t, row_list, session, first, last):
+    """Answers how many rows hold a value of the span; they stand in the list's first cells, and the other cells stay."""
+    _, answer = asked(t, lambda index: index.span(session, first, last, len(row_list)))
+    if answer[0] == "no":
+        return answer
+    _, count, *rows = answer
+    row_list[:count] = rows
+    return ("count", count)
+
+
 def picked(t_words, scratch, place):
     """The part that the place names: the scratch's first 32 words, or those of one of the 96 slots; empty where there is none."""
     if place > MOST_SLOTS:
@@ -400,15 +411,17 @@ def abort(t, session):
 
 
 CALLS = {"create": create, "begin": begin, "query": query, "read": read, "update": update, "delete": delete,
-         "insert": insert, "commit": commit, "tidy": tidy, "abort": abort}
+         "insert": insert, "commit": commit, "tidy": tidy, "abort": abort, "span": span}
 
 
-def perform(t, scratch, name, args):
-    """Makes the call of that name; a picker answers ("part", words ..)."""
+def perform(t, scratch, name, args, row_list=None):
+    """Makes the call of that name, a span over a list of no cells where none is lent; a picker answers ("part", words ..)."""
     if name == "picked":
         return ("part", *picked(t.words, scratch, *args))
     if name == "query":
         return query(t, scratch, *args)
+    if name == "span":
+        return span(t, [] if row_list is None else row_list, *args)
     return CALLS[name](t, *args)
 
 

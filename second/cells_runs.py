@@ -1,7 +1,8 @@
 """Runs of calls over lent tables, each determined by its seed: what cells.py and the archive are compared on.
 
-A run is a generator. It yields ("lend", tables, scratch), which starts over on those cells, or ("call", name, arguments),
-and is sent the answer to each call; what was lent stays lent, as the calls left it, until the next "lend".
+A run is a generator. It yields ("lend", tables, scratch), which starts over on those cells, ("list", cells), which lends
+another list of rows, or ("call", name, arguments), and is sent the answer to each call; what was lent stays lent, as the
+calls left it, until the next "lend" or "list". Before the first "list" the list has no cells.
 
     python3 second/cells_runs.py CALLS SEED      makes the calls on cells.py alone, and counts what was reached
 """
@@ -13,13 +14,14 @@ from random import Random
 import cells
 import runs
 from cells import CHANGES, ENDS, GONE, KINDS, NEW, ROW_COUNTS, SETS, SLOT_LINKS, SLOT_STAMPS
+from cells_spans import SPANS
 from rules import Index
 from steps import step
 from tables import (ABSENT, COMMIT, MOST_CHANGES, MOST_ENTRIES, MOST_RECORDS, MOST_ROWS, MOST_SLOTS, MOST_VALUES, NO_LINK,
                     SESSIONS, TIDY, WORDS, Change, Insert, Listed, Record, Session, Slot)
 
-NAMES = ("begin", "query", "read", "update", "delete", "insert", "commit", "tidy", "abort")
-WEIGHTS = (6, 18, 12, 16, 7, 6, 16, 24, 2)
+NAMES = ("begin", "query", "read", "update", "delete", "insert", "commit", "tidy", "abort", "span")
+WEIGHTS = (6, 18, 12, 16, 7, 6, 16, 24, 2, 20)
 THRESHOLDS = (0, 0, 1, 2, 8, 8, 8, 1000, 2 ** 32, 2 ** 64 - 1)
 EDGES = (0, 1, 15, 16, 31, 32, 95, 96, 255, 256, 511, 512, 2047, 2048, 65535, 65536, 2 ** 31, 2 ** 32 - 1, 2 ** 32, 2 ** 63, 2 ** 64 - 1)
 
@@ -204,6 +206,15 @@ def full(random):
         left = max(0, needed - random.randrange(2))
         index.log[0].changes[:0] = [Change(rows - 1, frozenset())] * (MOST_CHANGES - 20 - left)
     return cells.lay(index)
+
+
+def poked(random):
+    """Sound tables of a run or at a limit in which bits were set by hand: rows that several values hold."""
+    t = random.choice((grown, full))(random)
+    for _ in range(random.choice((1, 5, 60)) if t.clock[1] else 0):
+        i, row = random.randrange(t.clock[4]), random.randrange(t.clock[1])
+        t.words[WORDS * i + row // 64] |= 1 << row % 64
+    return t
 
 
 def any_heads(random, index):
@@ -442,13 +453,14 @@ LIMITS = (
 
 
 def fixed():
-    """Every clause of number 2, every limit and all of the six, once each, in order: what a seed may miss."""
+    """Every clause of number 2, every limit, all of the six and the spans, once each, in order: what a seed may miss."""
     random = Random(0)
+    yield ("list", garbage(random, 9, 16))
     for _, _, change in CLAUSES:
         t = whole()
         change(t)
         yield ("lend", t, garbage(random, WORDS, 64))
-        for name, args in (("begin", (5,)), ("query", (1, 0, 0)), ("insert", (1, 2)), ("commit", (1,)), ("tidy", (5, 0))):
+        for name, args in (("begin", (5,)), ("query", (1, 0, 0)), ("span", (1, 0, 1)), ("insert", (1, 2)), ("commit", (1,)), ("tidy", (5, 0))):
             yield ("call", name, args)
     for make, (name, args), _ in LIMITS:
         yield ("lend", make(), garbage(random, WORDS, 64))
@@ -457,14 +469,18 @@ def fixed():
         yield ("lend", make(), garbage(random, WORDS, 64))
         for name, args in asked:
             yield ("call", name, args)
+    for make, lent, args, _, _ in SPANS:
+        yield ("lend", make(), garbage(random, WORDS, 64))
+        yield ("list", list(lent))
+        yield ("call", "span", args)
 
 
 # Damage: a cell in use is changed. Each function changes one, and says nothing of whether the sentence then fails.
 
 
 def at_most(random, limit, now):
-    """A number around a limit, or around what stands there."""
-    return max(0, random.choice((limit, limit + 1, limit + 2, now - 1, now + 1, 0, 2 ** 32 - 1)))
+    """A number of 32 bits around a limit, or around what stands there."""
+    return min(max(0, random.choice((limit, limit + 1, limit + 2, now - 1, now + 1, 0, 2 ** 32 - 1))), 2 ** 32 - 1)
 
 
 def hurt_clock(random, t):
@@ -564,6 +580,20 @@ def any_column(random):
     return (C, column)
 
 
+def any_span(random, C):
+    """The ends of a span: mostly in order, at times the wrong way round, at times with an end that is no value."""
+    ends = [number(random, min(C, 40)), number(random, min(C, 40))]
+    return ends if random.random() < 0.2 else sorted(ends)
+
+
+def list_for(random, t, args):
+    """A list for a span: as long as its answer, one or more cells shorter or longer, or of no cells."""
+    answer = cells.perform(t, [], "span", args, [0] * MOST_ROWS)
+    rows = answer[1] if answer[0] == "count" else random.choice((0, 3, 9))
+    length = random.choice((rows, rows, rows, rows - 1, rows - 1, rows + 1, rows + 9, rows // 2, 0, MOST_ROWS, MOST_ROWS + 1))
+    return any_cells(random, max(0, length), 16)
+
+
 def any_call(random, t):
     """A call with its arguments, near what the tables hold."""
     name = random.choices(NAMES, WEIGHTS)[0]
@@ -573,15 +603,17 @@ def any_call(random, t):
     opened = [n for n, place in enumerate(t.sessions[:SESSIONS]) if place.live]
     session = random.choice(opened) if opened and random.random() < 0.85 else number(random, SESSIONS)
     row, value = number(random, min(rows, random.choice((8, 10 ** 9)))), number(random, min(C, 40))
-    args = {"read": (session, row), "delete": (session, row), "update": (session, row, value), "query": (session, value, random.choice(THRESHOLDS)),
+    args = {"span": (session, *any_span(random, C)), "read": (session, row), "delete": (session, row), "update": (session, row, value), "query": (session, value, random.choice(THRESHOLDS)),
             "insert": (session, value), "tidy": (session, value)}.get(name, (session,))
     return name, args
 
 
 def calls(random, t, count):
-    """So many calls; after a query the picker, at times at a place that it did not name."""
+    """So many calls; before a span mostly another list, after a query the picker, at times at a place that it did not name."""
     for _ in range(count):
         name, args = ("create", any_column(random)) if random.random() < 0.04 else any_call(random, t)
+        if name == "span" and random.random() < 0.85:
+            yield ("list", list_for(random, t, args))
         answer = yield ("call", name, args)
         if answer[0] == "query":
             yield ("call", "picked", (answer[3],))
@@ -590,7 +622,7 @@ def calls(random, t, count):
             yield ("call", "picked", (random.choice((0, 1, 2, MOST_SLOTS, MOST_SLOTS + 1, 2 ** 32, 2 ** 32 + 1, 2 ** 59, 2 ** 63, 2 ** 64 - 1)),))
 
 
-TABLES = ((begun, 3), (grown, 4), (by_hand, 8), (full, 3))
+TABLES = ((begun, 3), (grown, 4), (by_hand, 8), (full, 3), (poked, 2))
 
 
 def any_run(random):
@@ -621,9 +653,9 @@ def steps(seed):
 
 
 def made(run, count=None):
-    """Makes so many calls of a run, or all, on cells.py: yields the step, the answer, the tables and the scratch after it, and which
-    sentence of number 2 failed before it. A step that lends has no answer."""
-    answer, t, scratch, left = None, None, None, count
+    """Makes so many calls of a run, or all, on cells.py: yields the step, the answer, the tables, the scratch and the list after it, and
+    which sentence of number 2 failed before it. A step that lends has no answer."""
+    answer, t, scratch, row_list, left = None, None, None, [], count
     while left is None or left > 0:
         try:
             asked = run.send(answer)
@@ -632,17 +664,19 @@ def made(run, count=None):
         answer, why = None, None
         if asked[0] == "lend":
             _, t, scratch = asked
+        elif asked[0] == "list":
+            _, row_list = asked
         else:
             why = None if cells.without_room(t) else cells.failing(t)
-            answer = cells.perform(t, scratch, *asked[1:])
+            answer = cells.perform(t, scratch, *asked[1:], row_list)
             left = left and left - 1
-        yield asked, answer, t, scratch, why
+        yield asked, answer, t, scratch, row_list, why
 
 
 def reached(seed, count):
     """What the calls of a seed reached: (call, kind or refusal), and the sentences that failed where 2 was given."""
     answers, sentences = Counter(), Counter()
-    for asked, answer, _, _, why in made(steps(seed), count):
+    for asked, answer, _, _, _, why in made(steps(seed), count):
         if asked[0] == "call":
             answers[asked[1], answer[1] if answer[0] == "no" else answer[0]] += 1
             if answer == ("no", 2):

@@ -7,6 +7,9 @@ in its vector (at first the first column's rows of it), and the moved rows at s 
 and the rows holding the value at s, and not in the other.
 
     python3 second/replay.py INPUT OUTPUT
+
+A span has no word in the step program; the tests put spans into their transcripts, as `span session first last` with the
+answer `ok count row row ..`.
 """
 
 import sys
@@ -43,7 +46,7 @@ class Replay:
         self.left = []  # left[v] has (stamp, rows) for the first column and each accepted tidy of v
         self.sessions = {}
         self.plain_calls = {
-            b"column": self.column, b"begin": self.begin, b"query": self.query, b"read": self.read,
+            b"column": self.column, b"begin": self.begin, b"query": self.query, b"span": self.span, b"read": self.read,
             b"update": self.update, b"delete": self.delete, b"insert": self.insert, b"abort": self.abort,
         }
 
@@ -112,6 +115,13 @@ class Replay:
         rows = sorted(self.holding(value, start))
         count = len(self.moved(value, start))
         return [count, 1 if count > DUE_ABOVE else 0, len(rows), *rows]
+
+    def span(self, session, first, last):
+        """The rows that held one of the values at the opening: in the plain column a row stands once, in its place."""
+        require(first <= last < len(self.left), "a span that is none was accepted")
+        column = self.columns[self.sessions[session].start]
+        rows = [row for row, held in enumerate(column) if held is not ABSENT and first <= held <= last]
+        return [len(rows), *rows]
 
     def read(self, session, row):
         """What the row held at the opening."""

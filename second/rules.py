@@ -1,8 +1,9 @@
-"""Document 01, "Full scope and exact rules", as plain Python: what the proved program is compared with.
+"""Document 01, "Full scope and exact rules", as plain Python, with the requests of document 02 that have landed: what the
+proved program is compared with.
 
-`Index` has the ten calls. A call reads like its paragraph in 01, in that order, with the sentences it renders above
-the lines that render them. A refusal function asks its numbers in ascending order, so the first that applies is the
-smallest. An answer is a tuple: ("ok", numbers ..) or ("no", N).
+`Index` has 01's ten calls and 02's span. A call reads like its paragraph, in that order, with the sentences it renders
+above the lines that render them. A refusal function asks its numbers in ascending order, so the first that applies is
+the smallest; where 02 states a place, the number is asked there. An answer is a tuple: ("ok", numbers ..) or ("no", N).
 
 A free session is None, and record k stands in the log at place k - 1. Number 1 is never given, for nothing is lent.
 Number 2 is given before the first accepted create only: the tables are all 0 then, and no call damages sound ones
@@ -14,7 +15,7 @@ from tables import (ABSENT, COMMIT, MOST_CHANGES, MOST_ENTRIES, MOST_RECORDS, MO
 
 
 class Index:
-    """The tables and the ten calls."""
+    """The tables and the calls."""
 
     def __init__(self):
         """Before any accepted column the tables are all 0."""
@@ -53,6 +54,13 @@ class Index:
         version = self.version(value, s)
         flipped = self.flipped(value, version.stamp, s)
         return version.vector ^ flipped, len(flipped)
+
+    def spanned(self, first, last, s):
+        """The rows of any value of the span, both ends in, at s: the union of the vectors of its values."""
+        rows = set()
+        for value in range(first, last + 1):
+            rows |= self.queried(value, s)[0]
+        return rows
 
     def last_change(self, row, s):
         """The record number and flip set of the last change naming the row in records 1 to s; 0 and empty if none."""
@@ -207,6 +215,34 @@ class Index:
         # "whether a tidy is due: count greater than the threshold, 8 unless the caller passes another"
         due = 1 if count > threshold else 0
         return ("ok", count, due, len(vector), *sorted(vector))
+
+    def span_refusal(self, session, first, last, list_cells):
+        """The number that refuses a span, or None."""
+        if self.damaged():
+            return 2
+        if session >= SESSIONS:
+            return 4
+        if self.not_open(session):
+            return 5
+        # "6 for either end;"
+        if first >= self.C or last >= self.C:
+            return 6
+        # "20, first value above the last, straight after 6;"
+        if first > last:
+            return 20
+        # "21, list shorter than the answer, last."
+        if list_cells < len(self.spanned(first, last, self.sessions[session].stamp)):
+            return 21
+        return None
+
+    def span(self, session, first, last, list_cells=MOST_ROWS):
+        """Answers the number of rows that hold a value of the span, and these rows, ascending and once each, which are
+        what the lent list's first cells get. It takes no scratch and gives no flip count."""
+        number = self.span_refusal(session, first, last, list_cells)
+        if number is not None:
+            return ("no", number)
+        rows = self.spanned(first, last, self.sessions[session].stamp)
+        return ("ok", len(rows), *sorted(rows))
 
     def read_refusal(self, session, row):
         """The number that refuses a read, or None."""

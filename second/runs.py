@@ -11,6 +11,7 @@ from random import Random
 
 import bad_lines
 from limits import SCENES, limits
+from lines import answer_line
 from making import WORDS, any_column, call_line, column_line, interleave, say
 from rules import Index
 from steps import step
@@ -179,6 +180,23 @@ def lines_of(kind, count, seed):
         answer = step(index, line)
         made.append(line)
     return made
+
+
+def with_spans(kind, count, seed, index):
+    """A run's lines with spans of open sessions between them, as a transcript: the lines, and the answers of the index to each. The step
+    program has no word for a span, so this is no input for it."""
+    random = Random(seed)
+    asked, given = [], []
+    for line in lines_of(kind, count, seed):
+        asked.append(line)
+        given.append(answer_line(step(index, line)))
+        opened = [n for n, session in enumerate(index.sessions) if session is not None]
+        if opened and random.random() < 0.5:
+            ends = sorted(random.randrange(index.C) for _ in range(2))
+            numbers = (random.choice(opened), *ends)
+            asked.append(say("span", *numbers))
+            given.append(answer_line(index.span(*numbers)))
+    return asked, given
 
 
 def input_of(kind, count, seed):

@@ -5,6 +5,7 @@ from random import Random
 
 import cells
 import cells_runs
+import cells_spans
 import damaged
 import runs
 from rules import Index
@@ -30,7 +31,7 @@ class Room(unittest.TestCase):
     def test_each_table_one_cell_short(self):
         """One cell less than the limit is refused for each table, whatever else holds, and nothing changes."""
         for name in ("clock", "slots", "words", "heads", "log", "changes", "sessions"):
-            for call, args in (("create", (0, [])), ("begin", (99,)), ("abort", (0,)), ("query", (16, 99, 8))):
+            for call, args in (("create", (0, [])), ("begin", (99,)), ("abort", (0,)), ("query", (16, 99, 8)), ("span", (16, 99, 0))):
                 t = cells.empty()
                 getattr(t, name).pop()
                 before = t.copy().cells()
@@ -54,8 +55,8 @@ class Damage(unittest.TestCase):
             t = cells_runs.whole()
             change(t)
             self.assertEqual(cells.failing(t), sentence, name)
-            answer = cells.begin(t, 5)
-            self.assertEqual(answer == ("no", 2), sentence is not None, name)
+            for answer in (cells.span(t, [0] * 9, 16, 1, 0), cells.begin(t, 5)):
+                self.assertEqual(answer == ("no", 2), sentence is not None, name)
 
     def test_2_comes_before_4_and_create_does_not_ask(self):
         """Damaged tables refuse a session that is none with 2, and are created anew."""
@@ -68,7 +69,7 @@ class Damage(unittest.TestCase):
     def test_no_tables_at_all(self):
         """Tables of 0 are damaged: C is 0."""
         for name in cells_runs.NAMES:
-            t, answers = ran((name, (0, 0, 8)[:{"begin": 1, "commit": 1, "abort": 1, "update": 3, "query": 3}.get(name, 2)]))
+            t, answers = ran((name, (0, 0, 8)[:{"begin": 1, "commit": 1, "abort": 1, "update": 3, "query": 3, "span": 3}.get(name, 2)]))
             self.assertEqual(answers, [("no", 2)], name)
 
     def test_damaged_py_agrees(self):
@@ -175,6 +176,65 @@ class Printed(unittest.TestCase):
         self.assertEqual(cells.query(t, [0] * 32, 1, 1, 2 ** 64 - 1), ("query", 0, 0, 2))
 
 
+class Span(unittest.TestCase):
+    """The rows of any value of a span, in a lent list."""
+
+    def test_by_hand(self):
+        """Each answer and each cell of the list; the tables and the scratch stay."""
+        for place, (make, lent, args, wanted, after) in enumerate(cells_spans.SPANS):
+            t, scratch, row_list = make(), [7] * 3, list(lent)
+            self.assertIsNone(cells.failing(t), place)
+            before = t.copy().cells()
+            self.assertEqual(cells.perform(t, scratch, "span", args, row_list), wanted, place)
+            self.assertEqual((row_list, t.cells(), scratch), (after, before, [7] * 3), place)
+
+    def test_1_and_2_come_first(self):
+        """Whatever the numbers and the list are."""
+        for name in ("clock", "slots", "words", "heads", "log", "changes", "sessions"):
+            t, row_list = cells_spans.shared(), [9] * 5
+            getattr(t, name).pop()
+            for args in ((0, 0, 1), (16, 0, 1), (3, 0, 1), (0, 4, 0), (0, 1, 0)):
+                self.assertEqual((cells.span(t, row_list, *args), row_list), (("no", 1), [9] * 5), name)
+        t = cells_spans.shared()
+        t.clock[4] = 97
+        for args in ((0, 0, 1), (16, 0, 1), (3, 0, 1), (0, 4, 0), (0, 1, 0)):
+            self.assertEqual(cells.span(t, [], *args), ("no", 2))
+
+    def test_one_list_for_several(self):
+        """What an earlier span wrote stays behind what a later one writes; no scratch is asked for."""
+        t, row_list = cells_spans.shared(), [9] * 6
+        answers = [cells.perform(t, [], "span", args, row_list) for args in ((0, 0, 3), (0, 2, 2), (1, 3, 3), (1, 1, 0), (0, 3, 3))]
+        self.assertEqual(answers, [("count", 4), ("count", 1), ("count", 2), ("no", 20), ("count", 0)])
+        self.assertEqual(row_list, [2, 3, 2, 3, 9, 9])
+
+    def test_printed_run(self):
+        """Session 1 started before commit 1 moved row 0 from value 1 to 3, session 0 after it."""
+        t, _ = ran(*PRINTED, ("begin", (0,)))
+        for args, rows in (((1, 1, 2), [0, 1, 3]), ((0, 1, 2), [1, 3]), ((0, 2, 3), [0, 1]), ((0, 3, 3), [0]), ((1, 3, 3), [])):
+            row_list = [9] * 4
+            self.assertEqual(cells.span(t, row_list, *args), ("count", len(rows)))
+            self.assertEqual(row_list, rows + [9] * (4 - len(rows)))
+
+    def test_the_union_of_its_queries(self):
+        """On tables of every kind, what the queries of its values give, taken together."""
+        random, rows_seen = Random(7), 0
+        for made in (cells_runs.by_hand, cells_runs.poked, cells_runs.full, cells_runs.grown) * 12:
+            t = made(random)
+            for n in (n for n, place in enumerate(t.sessions) if place.live):
+                first = random.randrange(t.clock[0])
+                last = random.randrange(first, t.clock[0])
+                held = set()
+                for value in range(first, last + 1):
+                    scratch = [0] * 32
+                    held |= cells.vector(cells.picked(t.words, scratch, cells.query(t, scratch, n, value, 8)[3]))
+                row_list = [9] * 2050
+                self.assertEqual(cells.span(t, row_list, n, first, last), ("count", len(held)))
+                self.assertEqual(row_list, sorted(held) + [9] * (2050 - len(held)))
+                rows_seen += len(held)
+                break
+        self.assertGreater(rows_seen, 1000)
+
+
 class ByHand(unittest.TestCase):
     """Sound tables that no run makes."""
 
@@ -242,17 +302,20 @@ class ByHand(unittest.TestCase):
 
     def test_refused_calls_change_nothing(self):
         """Over a run of everything, a refusal leaves every cell as it was."""
-        run, answer, t, scratch, refused = cells_runs.steps(3), None, None, None, 0
-        for _ in range(600):
+        run, answer, t, scratch, row_list, refused = cells_runs.steps(3), None, None, None, [], 0
+        for _ in range(700):
             asked = run.send(answer)
             if asked[0] == "lend":
                 (_, t, scratch), answer = asked, None
                 continue
-            before = (t.copy().cells(), list(scratch))
-            answer = cells.perform(t, scratch, *asked[1:])
+            if asked[0] == "list":
+                (_, row_list), answer = asked, None
+                continue
+            before = (t.copy().cells(), list(scratch), list(row_list))
+            answer = cells.perform(t, scratch, *asked[1:], row_list)
             if answer[0] in ("no", "value", "absent", "part"):
                 refused += 1
-                self.assertEqual((t.cells(), scratch), before)
+                self.assertEqual((t.cells(), scratch, row_list), before)
         self.assertGreater(refused, 100)
 
 
@@ -268,11 +331,22 @@ class Runs(unittest.TestCase):
             return answer
         return ("ok", ABSENT) if answer[0] == "absent" else ("ok", *answer[1:])
 
+    def spans_beside(self, index, t):
+        """Two spans of the first open session, on both: of all values, and of the lower half into a list that is a cell too short."""
+        opened = [n for n, session in enumerate(index.sessions) if session is not None]
+        if opened:
+            row_list = [9] * 2048
+            count = cells.span(t, row_list, opened[0], 0, index.C - 1)[1]
+            self.assertEqual(index.span(opened[0], 0, index.C - 1), ("ok", count, *row_list[:count]))
+            rows = index.span(opened[0], 0, index.C // 2)[2:] if index.C > 1 else ()
+            if rows:
+                self.assertEqual(cells.span(t, [9] * (len(rows) - 1), opened[0], 0, index.C // 2), ("no", 21))
+
     def beside(self, kind, seed, count):
         """Makes the run of lines on both; the cells' model is the rules' state after each."""
         import lines
         index, t, scratch = Index(), cells.empty(), [0] * 32
-        for line in runs.lines_of(kind, count, seed):
+        for place, line in enumerate(runs.lines_of(kind, count, seed)):
             try:
                 word, fields = lines.request(line)
             except lines.Unreadable:
@@ -285,6 +359,8 @@ class Runs(unittest.TestCase):
                 asked = (word, tuple(fields))
             answer = cells.perform(t, scratch, *asked)
             self.assertEqual(self.plain(t, scratch, answer), step(index, line), line)
+            if index.C and place % 8 == 0:
+                self.spans_beside(index, t)
             if index.C:
                 again = cells.model(t)
                 self.assertEqual((again.C, again.first_rows, again.stamp, again.rows, again.slots, again.heads, again.log),
@@ -307,7 +383,7 @@ class Runs(unittest.TestCase):
     def test_hand_made_tables_are_sound(self):
         """What the generators call sound is undamaged by both, and is laid down as it was read."""
         random = Random(11)
-        for made in (cells_runs.by_hand, cells_runs.full, cells_runs.grown) * 8:
+        for made in (cells_runs.by_hand, cells_runs.full, cells_runs.grown, cells_runs.poked) * 8:
             t = made(random)
             if t.clock[0]:
                 self.assertIsNone(cells.failing(t), made.__name__)

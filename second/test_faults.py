@@ -110,6 +110,60 @@ class CountOutOfThinAir(Index):
         return answer if answer[0] == "no" else ("ok", answer[1] + 1, *answer[2:])
 
 
+# What a span could be taken for.
+
+
+class SpanOpenAtTheRight(Index):
+    """A span without its last value."""
+
+    def spanned(self, first, last, s):
+        return super().spanned(first, last - 1, s)
+
+
+class SpanAtNow(Index):
+    """A span of the current stamp."""
+
+    def spanned(self, first, last, s):
+        return super().spanned(first, last, self.stamp)
+
+
+class SpanOfVectors(Index):
+    """A span of the versions' own words, without the flips."""
+
+    def spanned(self, first, last, s):
+        return set().union(*(self.version(value, s).vector for value in range(first, last + 1)))
+
+
+class SpanByParity(Index):
+    """A span in which a row that two values hold is in neither."""
+
+    def spanned(self, first, last, s):
+        rows = set()
+        for value in range(first, last + 1):
+            rows ^= self.queried(value, s)[0]
+        return rows
+
+
+class SpanValueByValue(Index):
+    """A span that lists the rows of one value after those of another: not ascending, and twice where two values hold one."""
+
+    def span(self, session, first, last, list_cells=2048):
+        number = self.span_refusal(session, first, last, list_cells)
+        if number is not None:
+            return ("no", number)
+        s = self.sessions[session].stamp
+        rows = [row for value in range(first, last + 1) for row in sorted(self.queried(value, s)[0])]
+        return ("ok", len(rows), *rows)
+
+
+class SpanShortListFirst(Index):
+    """A span that asks for room in the list before the order of its ends."""
+
+    def span_refusal(self, session, first, last, list_cells):
+        number = super().span_refusal(session, first, last, list_cells)
+        return 21 if number == 20 and list_cells == 0 else number
+
+
 class SmallRuns(unittest.TestCase):
     """A run of a few lines catches the fault; the answers are written by hand."""
 
@@ -146,6 +200,22 @@ class SmallRuns(unittest.TestCase):
         self.caught(StopsBeforeS, PRINTED_INPUT, PRINTED_OUTPUT)
         self.assertEqual(answers(PRINTED_INPUT, StopsBeforeS())[7], "ok 0 0 2 0 3")
 
+    def test_spans(self):
+        """Sessions 1 and 0 of the printed run; the last on a row that values 0 and 1 hold, which no run makes."""
+        two = (2, [(0, 0, NO_LINK, [0, 1]), (1, 0, NO_LINK, [1])], [0, 1], [], [0])
+        for fault, tables, asked, wanted in (
+                (SpanOpenAtTheRight, None, (1, 1, 2), ("ok", 3, 0, 1, 3)), (SpanAtNow, None, (1, 1, 2), ("ok", 3, 0, 1, 3)),
+                (SpanOfVectors, None, (0, 1, 2), ("ok", 2, 1, 3)), (SpanValueByValue, None, (1, 0, 1), ("ok", 3, 0, 2, 3)),
+                (SpanShortListFirst, None, (1, 1, 0, 0), ("no", 20)), (SpanByParity, two, (0, 0, 1), ("ok", 2, 0, 1)),
+                (SpanValueByValue, two, (0, 0, 1), ("ok", 2, 0, 1)), (SpanByParity, two, (0, 0, 1, 1), ("no", 21))):
+            for index in (Index(), fault()):
+                if tables is None:
+                    answers(PRINTED_INPUT[:7], index)
+                else:
+                    by_hand(index, *tables)
+                with self.subTest(fault=fault.__name__):
+                    self.assertEqual(index.span(*asked) == wanted, type(index) is Index, index.span(*asked))
+
     def test_what_contracts_have_to_reject(self):
         for fault in (AlwaysRefuses, ListsNoRows, CommitWritesNothing, CountOutOfThinAir):
             self.caught(fault, PRINTED_INPUT, PRINTED_OUTPUT)
@@ -169,6 +239,13 @@ class ByReplay(unittest.TestCase):
                       ListsNoRows, CommitWritesNothing, TidyOnlyClaims, CountOutOfThinAir):
             with self.subTest(fault.__name__), self.assertRaises(replay.Wrong):
                 replay.check_transcript(*self.transcript(fault()))
+
+    def test_spans(self):
+        """A run with spans between its lines: the index agrees, each fault that a run can show does not."""
+        replay.check_transcript(*runs.with_spans("mixed", 1500, 3, Index()))
+        for fault in (SpanOpenAtTheRight, SpanAtNow, SpanOfVectors, SpanValueByValue):
+            with self.subTest(fault.__name__), self.assertRaises(replay.Wrong):
+                replay.check_transcript(*runs.with_spans("mixed", 1500, 3, fault()))
 
     def test_each_answer_of_the_printed_run_matters(self):
         asked = [line.encode() for line in PRINTED_INPUT]

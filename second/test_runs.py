@@ -10,6 +10,7 @@ HERE = os.path.dirname(os.path.abspath(__file__))
 sys.path.insert(0, HERE)
 
 import compare
+import replay
 import runs
 import steps
 from damaged import damaged
@@ -47,6 +48,26 @@ class Generators(unittest.TestCase):
                 if answer[0] == "no":
                     self.assertEqual(cells(index), before, line[:80])
                 self.assertEqual(damaged(index), index.damaged(), line[:80])
+
+    def test_spans_by_replay(self):
+        """Between the lines of a run of each kind, every span is what the plain column has."""
+        for kind in runs.KINDS:
+            asked, given = runs.with_spans(kind, 1500, 6, Index())
+            replay.check_transcript(asked, given)
+            spans = [answer for line, answer in zip(asked, given) if line.startswith(b"span ") and answer != b"no 19"]
+            self.assertGreater(len(spans), 200, kind)
+            self.assertTrue(all(answer.startswith(b"ok ") for answer in spans), kind)
+
+    def test_spans_whose_answer_is_another(self):
+        """A row left out, one too many, one twice, or in another order."""
+        asked = [b"column 3 0 1 2 -", b"begin 0", b"span 0 1 2"]
+        replay.check_transcript(asked, [b"ok 4", b"ok 0 4", b"ok 2 1 2"])
+        for other in (b"ok 1 1", b"ok 3 0 1 2", b"ok 3 1 1 2", b"ok 2 2 1", b"ok 2 1 3", b"ok 3 1 2", b"ok 2"):
+            with self.subTest(other), self.assertRaises(replay.Wrong):
+                replay.check_transcript(asked, [b"ok 4", b"ok 0 4", other])
+        for line in (b"span 0 2 1", b"span 0 0 3", b"span 1 0 0"):
+            with self.subTest(line), self.assertRaises(replay.Wrong):
+                replay.check_transcript(asked[:2] + [line], [b"ok 4", b"ok 0 4", b"ok 0"])
 
     def test_every_number_that_the_step_program_can_give(self):
         seen = Counter()

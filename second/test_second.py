@@ -192,6 +192,49 @@ class RefusalNumbers(Run):
                  "tidy 0 1: no 18")
 
 
+class Spans(Run):
+    """02's first request: the rows of any value of a span, both ends in. It has no word in the step program."""
+
+    def setUp(self):
+        super().setUp()
+        answers(PRINTED_INPUT[:7], self.index)
+
+    def test_rows_of_the_printed_run(self):
+        """The column is 1 2 0 1. Session 1 started at stamp 0; session 0 at stamp 1, when row 0 had gone from 1 to 3."""
+        for asked, wanted in (((1, 1, 2), ("ok", 3, 0, 1, 3)), ((1, 0, 3), ("ok", 4, 0, 1, 2, 3)), ((1, 3, 3), ("ok", 0)),
+                              ((0, 1, 2), ("ok", 2, 1, 3)), ((0, 2, 3), ("ok", 2, 0, 1)), ((0, 1, 1), ("ok", 1, 3)),
+                              ((0, 0, 3), ("ok", 4, 0, 1, 2, 3))):
+            self.assertEqual(self.index.span(*asked), wanted, asked)
+
+    def test_refusals_in_their_order(self):
+        """2, 4, 5, 6 for either end, 20 straight after 6, 21 last."""
+        self.assertEqual(Index().span(16, 9, 0, 0), ("no", 2))
+        for asked, number in (((16, 4, 0, 0), 4), ((5, 4, 0, 0), 5), ((1, 4, 0, 0), 6), ((1, 0, 4, 0), 6), ((1, 4, 3, 0), 6),
+                              ((1, 2, 1, 0), 20), ((1, 3, 0, 9), 20), ((1, 1, 2, 2), 21), ((1, 0, 3, 3), 21), ((1, 1, 1, 0), 21)):
+            self.assertEqual(self.index.span(*asked), ("no", number), asked)
+
+    def test_list_as_long_as_the_answer(self):
+        self.assertEqual(self.index.span(1, 1, 2, 3), ("ok", 3, 0, 1, 3))
+        self.assertEqual(self.index.span(1, 3, 3, 0), ("ok", 0))
+
+    def test_absent_rows_and_own_list(self):
+        """Absent rows are in no span, and what a session lists is not seen yet."""
+        self.say("column 3 0 - 2 1 -: ok 5", "begin 0: ok 0 5", "delete 0 0: ok 1", "update 0 2 0: ok 2", "insert 0 1: ok 3")
+        self.assertEqual(self.index.span(0, 0, 2), ("ok", 3, 0, 2, 3))
+        self.assertEqual(self.index.span(0, 1, 2), ("ok", 2, 2, 3))
+        self.say("commit 0: ok 1 6", "begin 0: ok 1 6")
+        self.assertEqual(self.index.span(0, 0, 2), ("ok", 3, 2, 3, 5))
+        self.assertEqual(self.index.span(0, 0, 0), ("ok", 1, 2))
+
+    def test_no_tidy_shows(self):
+        self.say("tidy 0 3: ok 2 1", "abort 0: ok 0", "begin 0: ok 2 4")
+        self.assertEqual(self.index.span(0, 2, 3), ("ok", 2, 0, 1))
+        self.assertEqual(self.index.span(1, 2, 3), ("ok", 1, 1))
+
+    def test_no_word(self):
+        self.say("span 1 1 2: no 19", "span: no 19")
+
+
 class Decisions(Run):
     """What 01 leaves open, as the project decided it."""
 

@@ -2,11 +2,13 @@
  * writes the answer and every cell of every table after it. tests/cells.py is at the other end. All numbers little-endian.
  *
  *   'L'  lend: 8 lengths (u64: clock, slots, words, heads, log, changes, sessions, scratch), then the cells of each
- *   'C'  call: its number (u64, in the order of kerenvuf.h, the picker last), 3 arguments (u64), the length of the column
+ *   'R'  lend a list of rows: its length (u64) and cells (u16)
+ *   'C'  call: its number (u64, as make has them, the picker last), 3 arguments (u64), the length of the column
  *        (u64) and its bytes
  *
  * After a call: the 5 numbers of the answer (u32), 1 if nothing beside the lent cells was written (u32), the cells of the
- * 8 tables, and the 32 words of the picker's out, which stand at 0 before each call. The picker's count is the answer's a.
+ * 8 tables and of the list, and the 32 words of the picker's out, which stand at 0 before each call. The picker's count is the
+ * answer's a.
  */
 #include <stdio.h>
 #include <stdlib.h>
@@ -14,16 +16,16 @@
 
 #include "kerenvuf.h"
 
-enum { TABLES = 8, GUARD = 64, OUT = 32 };
+enum { LIST = 8, TABLES = 9, GUARD = 64, OUT = 32 };
 
 _Static_assert(sizeof(kv_session) == 112, "the session's cells lie without a gap");
 
-/* A lent table: its length and cells, with a guard on each side. */
+/* A lent table, or the list: its length and cells, with a guard on each side. */
 static struct table {
     uint64_t len;
     size_t size;
     unsigned char *at;
-} table[TABLES] = {{0, 4, 0}, {0, 4, 0}, {0, 8, 0}, {0, 4, 0}, {0, 4, 0}, {0, 4, 0}, {0, sizeof(kv_session), 0}, {0, 8, 0}};
+} table[TABLES] = {{0, 4, 0}, {0, 4, 0}, {0, 8, 0}, {0, 4, 0}, {0, 4, 0}, {0, 4, 0}, {0, sizeof(kv_session), 0}, {0, 8, 0}, {0, 2, 0}};
 
 /* Reads n bytes; ends the program where the input ends. */
 static void take(void *to, size_t n) {
@@ -41,10 +43,10 @@ static void give(const void *from, size_t n) {
 /* The cells of table i, after its guard. */
 static void *cells(int i) { return table[i].at + GUARD; }
 
-/* Lends the tables that the input has. */
-static void lend(void) {
-    for (int i = 0; i < TABLES; i++) take(&table[i].len, 8);
-    for (int i = 0; i < TABLES; i++) {
+/* Lends the tables from `from` to `to` that the input has: their lengths, then their cells. */
+static void lend(int from, int to) {
+    for (int i = from; i < to; i++) take(&table[i].len, 8);
+    for (int i = from; i < to; i++) {
         size_t bytes = table[i].len * table[i].size;
         free(table[i].at);
         table[i].at = malloc(bytes + 2 * GUARD);
@@ -79,6 +81,7 @@ static kv_answer make(uint64_t call, const uint64_t *n, const uint8_t *column, s
         case 7: return kv_commit(LENT, n[0]);
         case 8: return kv_tidy(LENT, n[0], n[1]);
         case 9: return kv_abort(LENT, n[0]);
+        case 10: return kv_span(LENT, cells(LIST), table[LIST].len, n[0], n[1], n[2]);
         default: {
             kv_answer a = {0, KV_COUNT, kv_picked(cells(2), table[2].len, cells(7), table[7].len, n[0], out, OUT), 0, 0};
             return a;
@@ -104,7 +107,8 @@ static void call(void) {
 /* Serves the input to its end. */
 int main(void) {
     for (int what; (what = getchar()) != EOF;) {
-        if (what == 'L') lend();
+        if (what == 'L') lend(0, LIST);
+        else if (what == 'R') lend(LIST, TABLES);
         else if (what == 'C') call();
         else return 1;
         fflush(stdout);

@@ -2,9 +2,9 @@
 
     python3 tests/cells.py --calls N --seed S [--driver COMMAND | --archive FILE]
 
-Builds tests/cells.c with the archive (target/staticlib/libkerenvuf.a unless told otherwise), makes the calls of
-second/cells_runs.py through it, first those that are always the same, and compares with second/cells.py. Stops at the first difference, with the seed, the
-call and the cells. On another machine than the archive's see tests/machine.py.
+Builds tests/cells.c with the archive (target/staticlib/libkerenvuf.a unless told otherwise), makes the calls of second/cells_runs.py
+through it, first those that are always the same, and compares with second/cells.py: the answer, every table, the scratch and the list
+of rows. Stops at the first difference, with the seed, the call and the cells. On another machine than the archive's see tests/machine.py.
 """
 
 import argparse
@@ -23,11 +23,11 @@ sys.path.insert(0, os.path.join(ROOT, "second"))
 import cells_runs  # noqa: E402
 import machine  # noqa: E402
 
-CALLS = ("create", "begin", "query", "read", "update", "delete", "insert", "commit", "tidy", "abort", "picked")
-# 01's table of refusals, by call: a run of ten thousand calls is to reach each
+CALLS = ("create", "begin", "query", "read", "update", "delete", "insert", "commit", "tidy", "abort", "span", "picked")
+# 01's table of refusals, by call, and those of 02's requests: a run of ten thousand calls is to reach each
 REFUSALS = {"create": (1, 3), "begin": (1, 2, 4), "query": (1, 2, 4, 5, 6, 10), "read": (1, 2, 4, 5, 7), "update": (1, 2, 4, 5, 6, 7, 8, 9),
             "delete": (1, 2, 4, 5, 7, 8, 9), "insert": (1, 2, 4, 5, 6, 9), "commit": (1, 2, 4, 5, 11, 12, 15, 16, 17),
-            "tidy": (1, 2, 4, 5, 6, 13, 14, 16, 17, 18), "abort": (1, 2, 4, 5)}
+            "tidy": (1, 2, 4, 5, 6, 13, 14, 16, 17, 18), "abort": (1, 2, 4, 5), "span": (1, 2, 4, 5, 6, 20, 21)}
 KINDS = {"no": 0, "count": 1, "stamp": 2, "value": 3, "absent": 4, "query": 5}
 PART = 32
 
@@ -48,6 +48,11 @@ def session_bytes(place):
             + array("H", place.at).tobytes() + array("B", place.to).tobytes())
 
 
+def list_bytes(row_list):
+    """The bytes of a list of rows, with its name."""
+    return ("list", array("H", row_list).tobytes())
+
+
 def tables(t, scratch):
     """Every table's bytes, with its name, in the order of kerenvuf.h."""
     return [("clock", array("I", t.clock).tobytes()), ("slots", array("I", t.slots).tobytes()), ("words", array("Q", t.words).tobytes()),
@@ -55,7 +60,7 @@ def tables(t, scratch):
             ("sessions", b"".join(map(session_bytes, t.sessions))), ("scratch", array("Q", scratch).tobytes())]
 
 
-SIZES = {"clock": 4, "slots": 4, "words": 8, "heads": 4, "log": 4, "changes": 4, "sessions": 112, "scratch": 8}
+SIZES = {"clock": 4, "slots": 4, "words": 8, "heads": 4, "log": 4, "changes": 4, "sessions": 112, "scratch": 8, "list": 2}
 
 
 class Driver:
@@ -64,7 +69,7 @@ class Driver:
     def __init__(self, command):
         """Starts it."""
         self.process = subprocess.Popen(command, stdin=subprocess.PIPE, stdout=subprocess.PIPE)
-        self.lengths = []
+        self.lengths, self.list_length = [], None
 
     def lend(self, t, scratch):
         """Lends the tables."""
@@ -73,15 +78,21 @@ class Driver:
         self.process.stdin.write(b"L" + struct.pack("<8Q", *(len(data) // SIZES[name] for name, data in lent))
                                  + b"".join(data for _, data in lent))
 
+    def lend_list(self, row_list):
+        """Lends a list of rows."""
+        name, data = list_bytes(row_list)
+        self.list_length = (name, len(data))
+        self.process.stdin.write(b"R" + struct.pack("<Q", len(row_list)) + data)
+
     def call(self, name, args):
-        """Makes a call: the answer's numbers, whether the guards stand, the tables and the picker's out after it."""
+        """Makes a call: the answer's numbers, whether the guards stand, the tables, the list and the picker's out after it."""
         column = bytes(args[1]) if name == "create" else b""
         given = [args[0]] if name == "create" else list(args)
         given += [0] * (3 - len(given))
         self.process.stdin.write(b"C" + struct.pack("<5Q", CALLS.index(name), *given, len(column)) + column)
         self.process.stdin.flush()
         answer = list(struct.unpack("<6I", self.take(24)))
-        after = [(table, self.take(size)) for table, size in self.lengths]
+        after = [(table, self.take(size)) for table, size in (*self.lengths, self.list_length)]
         return answer[:5], answer[5], after, self.take(8 * PART)
 
     def take(self, size):
@@ -107,11 +118,16 @@ def differences(found, wanted):
 def compare(driver, seed, count, counts):
     """The calls of one seed, or the fixed ones; a message at the first difference, or None."""
     before, done = [], 0
+    driver.lend_list([])
     run = cells_runs.fixed() if seed == "fixed" else cells_runs.steps(seed)
-    for step, answer, t, scratch, why in cells_runs.made(run, count):
+    for step, answer, t, scratch, row_list, why in cells_runs.made(run, count):
         if step[0] == "lend":
             driver.lend(t, scratch)
             before = []
+            continue
+        if step[0] == "list":
+            driver.lend_list(row_list)
+            before.append(("list", f"{len(row_list)} cells"))
             continue
         _, name, args = step
         found, guards, after, out = driver.call(name, args)
@@ -125,7 +141,7 @@ def compare(driver, seed, count, counts):
         part = list(answer[1:]) if name == "picked" else []
         if out != array("Q", part + [0] * (PART - len(part))).tobytes():
             wrong.append("the picker's words differ")
-        wrong += differences(after, tables(t, scratch))
+        wrong += differences(after, [*tables(t, scratch), list_bytes(row_list)])
         counts[name, answer[1] if answer[0] == "no" else answer[0]] += 1
         if why and answer == ("no", 2):
             counts["2", why] += 1
