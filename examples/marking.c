@@ -1,4 +1,4 @@
-/* An evening of marking, over the archive: hand in, take a worklist, mark, retry, tidy at night. It prints what marking.py prints.
+/* An evening of marking, over the archive: hand in, show the worklist, mark, retry, tidy at night. It prints what marking.py prints.
  *
  *     cc -I include examples/marking.c target/staticlib/libkerenvuf.a -o marking
  */
@@ -65,8 +65,20 @@ static rows hand_in(uint64_t session, int count) {
     return made;
 }
 
+/* The worklist page: the crowns that are handed in or in hand, on a snapshot of this moment, in one call. */
+static rows worklist(void) {
+    static uint16_t list[KV_LIST];
+    open_anew(READER);
+    rows found = {.count = (int)accepted(kv_span(KV_ALL(t), list, KV_LIST, READER, HANDED_IN, IN_HAND)).a};
+    for (int i = 0; i < found.count; i++) {
+        found.row[i] = list[i];
+    }
+    accepted(kv_abort(KV_ALL(t), READER));
+    return found;
+}
+
 /* The rows in a state, as the session sees them. */
-static rows worklist(uint64_t session, uint64_t state) {
+static rows held(uint64_t session, uint64_t state) {
     kv_answer answer = accepted(kv_query(KV_ALL(t), scratch, KV_SCRATCH, session, state, KV_THRESHOLD));
     const uint64_t *found = answer.c == 0 ? scratch : t.words + 32 * (answer.c - 1);
     rows list = {.count = 0};
@@ -112,7 +124,7 @@ static uint32_t create_again(void) {
     uint32_t count = open_anew(READER).b;
     memset(column, KV_ABSENT, sizeof column);
     for (int state = STATES - 1; state >= 0; state--) {
-        rows list = worklist(READER, (uint64_t)state);
+        rows list = held(READER, (uint64_t)state);
         for (int i = 0; i < list.count; i++) {
             column[list.row[i]] = (uint8_t)state;
         }
@@ -146,7 +158,7 @@ static void night(void) {
 static void show(void) {
     open_anew(READER);
     for (uint64_t state = 0; state < STATES; state++) {
-        rows list = worklist(READER, state);
+        rows list = held(READER, state);
         printf("  %s", names[state]);
         print_rows(": ", &list);
         printf("\n");
@@ -162,7 +174,7 @@ int main(void) {
     print_rows("handed in: rows ", &made);
 
     open_anew(1);
-    rows taken = worklist(1, HANDED_IN);
+    rows taken = held(1, HANDED_IN);
     taken.count = 4;
     for (int i = 0; i < taken.count; i++) {
         accepted(kv_update(KV_ALL(t), 1, taken.row[i], IN_HAND));
@@ -170,8 +182,10 @@ int main(void) {
     kv_answer answer = accepted(kv_commit(KV_ALL(t), 1));
     print_rows("\nmarker 1 takes ", &taken);
     printf(" at stamp and rows [%u, %u]\n", answer.a, answer.b);
+    rows page = worklist();
+    print_rows("the worklist, handed in or in hand: ", &page);
 
-    printf("both markers mark, each on a snapshot of the same moment\n");
+    printf("\nboth markers mark, each on a snapshot of the same moment\n");
     open_anew(1);
     open_anew(2);
     const rows own = {2, {taken.row[0], taken.row[1]}}, other = {3, {taken.row[1], taken.row[2], taken.row[3]}};
@@ -179,6 +193,8 @@ int main(void) {
     rows second = mark(2, &other, (const int[]){PASSED, PASSED, REFERRED});
     print_rows("  marker 1 moved ", &first);
     print_rows("\n  marker 2 moved ", &second);
+    page = worklist();
+    print_rows("\nthe worklist, handed in or in hand: ", &page);
     printf("\n");
     show();
 

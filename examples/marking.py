@@ -1,10 +1,11 @@
-"""An evening of marking, over the step program as a co-process: hand in, take a worklist, mark, retry, tidy at night.
+"""An evening of marking, over the step program as a co-process: hand in, show the worklist, mark, retry, tidy at night.
 
     python3 examples/marking.py examples/steps      over the proved program, which is built where it is not there yet
     python3 examples/marking.py                     over the second program, where nothing is built
+    python3 examples/marking.py --library           over the library that python/build makes, in this process (x86-64)
 
 Each line that goes in is answered by one line (docs/LINES.md): `ok` and numbers, or `no` and the number of the refusal. A program that
-ends, or gives no answer for 30 seconds, stops the script with one line.
+ends, or gives no answer for 30 seconds, stops the script with one line. Over the library the words of the lines are its calls.
 """
 
 import os
@@ -15,7 +16,8 @@ import sys
 HERE = os.path.dirname(os.path.realpath(__file__))
 sys.path.insert(0, os.path.join(HERE, "..", "python"))
 
-from kerenvuf import FULL, Refusal, Refused  # noqa: E402  (the names alone: no library is loaded)
+import kerenvuf  # noqa: E402  (the names alone: no library is loaded before an index is made)
+from kerenvuf import FULL, Refusal, Refused  # noqa: E402
 
 STEPS = os.path.join(HERE, "steps")
 SECOND = os.path.join(HERE, "..", "second", "steps.py")
@@ -57,6 +59,11 @@ class Index:
             raise Refused(int(numbers[0]), line)
         return [None if number == "-" else int(number) for number in numbers]
 
+    def span(self, session, first, last):
+        """The rows in any state from first to last, ascending. The step program has no word for a span, so each state is queried and the
+        rows are merged; the queries are of one session, so that they show one moment. The library has it as one call."""
+        return sorted({row for state in range(first, last + 1) for row in held(self, session, state)})
+
     def answer(self, line):
         """The next line that the program writes."""
         shown = line if len(line) < 40 else line[:40] + ".."
@@ -74,6 +81,10 @@ class Index:
             raise NoAnswer(f"this is no answer to {shown!r}: {said[:40]!r}; is {' '.join(self.command)} the step program?")
         return said
 
+    def kill(self):
+        """Stops the program in the middle."""
+        self.program.kill()
+
     def close(self):
         """Ends the program, whatever state it is in."""
         try:
@@ -83,6 +94,34 @@ class Index:
             self.program.kill()
             self.program.wait()
         self.program.stdout.close()
+
+
+class Library:
+    """The index in this process, over the library; asked as the program is."""
+
+    def __init__(self):
+        """An index in memory."""
+        self.index = kerenvuf.Index()
+
+    def ask(self, word, *fields):
+        """Makes the call of a line's word; the numbers of its answer."""
+        if word == "column":
+            return list(self.index.create(fields[0], fields[1:]))
+        if word == "query":
+            flips, due, rows = self.index.query(*fields)
+            return [flips, int(due), len(rows), *rows]
+        return list(getattr(self.index, word)(*fields))
+
+    def span(self, session, first, last):
+        """The rows in any state from first to last, ascending: one call."""
+        return self.index.span(session, first, last)
+
+    def kill(self):
+        """Nothing runs beside this process."""
+
+    def close(self):
+        """Lets go of the index."""
+        self.index.close()
 
 
 def open_anew(index, session):
@@ -105,7 +144,15 @@ def hand_in(index, session, count):
     return list(range(rows - count, rows))
 
 
-def worklist(index, session, state):
+def worklist(index, session=READER):
+    """The worklist page: the crowns that are handed in or in hand, on a snapshot of this moment."""
+    open_anew(index, session)
+    rows = index.span(session, HANDED_IN, IN_HAND)
+    index.ask("abort", session)
+    return rows
+
+
+def held(index, session, state):
     """The rows in a state, as the session sees them."""
     _, _, count, *rows = index.ask("query", session, state)
     assert count == len(rows)
@@ -137,7 +184,7 @@ def every_row(index, session=READER):
     _, rows = open_anew(index, session)
     column = [None] * rows
     for state in range(len(NAMES)):
-        for row in worklist(index, session, state):
+        for row in held(index, session, state):
             column[row] = state
     index.ask("abort", session)
     return column
@@ -171,7 +218,7 @@ def show(index, session=READER):
     """Where every crown is, on a snapshot of this moment."""
     open_anew(index, session)
     for state, name in enumerate(NAMES):
-        print(f"  {name}: {worklist(index, session, state)}")
+        print(f"  {name}: {held(index, session, state)}")
     index.ask("abort", session)
 
 
@@ -181,10 +228,11 @@ def evening(index):
     print("handed in: rows", hand_in(index, 0, 5))
 
     open_anew(index, 1)
-    taken = worklist(index, 1, HANDED_IN)[:4]
+    taken = held(index, 1, HANDED_IN)[:4]
     for row in taken:
         index.ask("update", 1, row, IN_HAND)
     print("marker 1 takes", taken, "at stamp and rows", index.ask("commit", 1))
+    print("the worklist, handed in or in hand:", worklist(index))
 
     print("both markers mark, each on a snapshot of the same moment")
     open_anew(index, 1)
@@ -193,6 +241,7 @@ def evening(index):
     second = mark(index, 2, {taken[1]: PASSED, taken[2]: PASSED, taken[3]: REFERRED})
     print("  marker 1 moved", first)
     print("  marker 2 moved", second)
+    print("the worklist, handed in or in hand:", worklist(index))
     show(index)
 
     print("the night")
@@ -201,23 +250,24 @@ def evening(index):
 
 
 def run(work, words):
-    """Does a piece of work over the program that the words name, or over the second program. Where the program gives no answer, or
-    refuses what the work counts on, the script ends with one line."""
+    """Does a piece of work over the program that the words name, over the second program, or over the library. Where there is no
+    library, or the program gives no answer or refuses what the work counts on, the script ends with one line."""
     name = os.path.basename(sys.argv[0])
     if words[:1] in (["-h"], ["--help"]):
-        print(f"usage: python3 examples/{name} [PROGRAM [WORD..]]\n\n"
-              "The program is the second program, unless another is named: examples/steps is the proved one.")
+        print(f"usage: python3 examples/{name} [PROGRAM [WORD..] | --library]\n\n"
+              "The program is the second program, unless another is named: examples/steps is the proved one.\n"
+              "--library takes the proved library that python/build makes instead of a program.")
         return
     index = None
     try:
-        index = Index(words or [sys.executable, "-u", SECOND])
+        index = Library() if words == ["--library"] else Index(words or [sys.executable, "-u", SECOND])
         work(index)
-    except (NoAnswer, Refused) as why:
+    except (NoAnswer, Refused, kerenvuf.Unavailable) as why:
         raise SystemExit(f"{name}: {why}") from None
     finally:
         if index is not None:
             if sys.exc_info()[0] is not None:
-                index.program.kill()
+                index.kill()
             index.close()
 
 

@@ -1,7 +1,7 @@
-/* The index over lent tables, for C and C++: the ten calls, and the picker of a query's words.
+/* The index over lent tables, for C and C++: the eleven calls, and the picker of a query's words.
  *
- * The caller lends the tables and keeps them; a call writes only into them (and query into the scratch) and remembers
- * nothing. Each table is a pointer and a length in elements; `kv_tables` has all seven, and `KV_ALL(t)` spells the fourteen
+ * The caller lends the tables and keeps them; a call writes only into them (query into the scratch, span into its list) and
+ * remembers nothing. Each table is a pointer and a length in elements; `kv_tables` has all seven, and `KV_ALL(t)` spells the fourteen
  * arguments: `kv_begin(KV_ALL(t), 3)`. Pointers are aligned for their types, and no two tables overlap. A table that is too
  * short is refused (1), and one that is longer is fine: cells beyond are kept.
  *
@@ -13,6 +13,7 @@
  *   changes   4096  rows from 0, flip sets from 2048 (value v is bit v)
  *   sessions  16
  *   scratch   32    query only
+ *   list      any   span only: its first cells become the rows; 2048 are always enough
  */
 #ifndef KERENVUF_H
 #define KERENVUF_H
@@ -23,8 +24,8 @@
 /* The version of this header (CHANGELOG.md), and of the layout of the tables: tables that were saved under another KV_LAYOUT
  * cannot be lent. */
 #define KV_VERSION_MAJOR 1
-#define KV_VERSION_MINOR 1
-#define KV_VERSION "1.1"
+#define KV_VERSION_MINOR 2
+#define KV_VERSION "1.2"
 #define KV_LAYOUT 1
 
 #ifdef __cplusplus
@@ -40,6 +41,7 @@ enum {
     KV_CHANGES = 4096,
     KV_SESSIONS = 16,
     KV_SCRATCH = 32,
+    KV_LIST = 2048,    /* a list for kv_span that no answer is longer than */
     KV_ABSENT = 255,   /* a byte of a column, a target of a list */
     KV_NEW = 65535,    /* the row cell of an entry that is an insert */
     KV_THRESHOLD = 8   /* what a caller of kv_query passes who has no other */
@@ -71,8 +73,9 @@ typedef struct kv_tables {
 
 /* What an answer holds. Numbers that a kind does not name are 0. */
 enum {
-    KV_REFUSED = 0,  /* refusal is the number, one of KV_REFUSALS; every table and the scratch are as they were */
-    KV_COUNT = 1,    /* create: a rows. update, delete, insert: a length of the list. abort: a length of the list dropped */
+    KV_REFUSED = 0,  /* refusal is the number, one of KV_REFUSALS; every table, the scratch and the list are as they were */
+    KV_COUNT = 1,    /* create: a rows. span: a rows, in the list's first cells. update, delete, insert: a length of the
+                        session's list. abort: a length of the list dropped */
     KV_STAMP = 2,    /* begin: a start stamp, b start row count. commit: a stamp, b row count. tidy: a stamp, b moved rows */
     KV_VALUE = 3,    /* read: a value */
     KV_GONE = 4,     /* read: the row is absent */
@@ -105,6 +108,8 @@ typedef struct kv_answer {
     X(17, CHANGES_FULL, "the changes would pass 2048")                                        \
     X(18, SLOTS_FULL, "there are 96 slots already")                                           \
     X(19, UNREADABLE, "the line cannot be read")                                              \
+    X(20, BACKWARD, "the first value is above the last")                                      \
+    X(21, SHORT_LIST, "the list is shorter than the answer")                                  \
     /* a new one: a line above this one, in python/kerenvuf.py and in docs/LINES.md */
 
 /* KV_NO_ROOM 1, KV_DAMAGED 2, and so on. */
@@ -146,6 +151,7 @@ static inline const char *kv_sentence(uint32_t refusal) {
 kv_answer kv_create(KV_LENT, uint64_t values, const uint8_t *column, size_t column_len);
 kv_answer kv_begin(KV_LENT, uint64_t session);
 kv_answer kv_query(KV_LENT, uint64_t *scratch, size_t scratch_len, uint64_t session, uint64_t value, uint64_t threshold);
+kv_answer kv_span(KV_LENT, uint16_t *list, size_t list_len, uint64_t session, uint64_t first, uint64_t last);
 kv_answer kv_read(KV_LENT, uint64_t session, uint64_t row);
 kv_answer kv_update(KV_LENT, uint64_t session, uint64_t row, uint64_t value);
 kv_answer kv_delete(KV_LENT, uint64_t session, uint64_t row);

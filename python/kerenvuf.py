@@ -1,4 +1,4 @@
-"""Kerenvuf from Python: the ten calls, over tables in memory or in a file. Standard library only, Python 3.9 or newer, Linux.
+"""Kerenvuf from Python: the eleven calls, over tables in memory or in a file. Standard library only, Python 3.9 or newer, Linux.
 
     python/build                                    proves and builds the shared library, once (x86-64)
 
@@ -36,7 +36,7 @@ import struct
 import tempfile
 import threading
 
-VERSION = "1.1"
+VERSION = "1.2"
 LAYOUT = 1
 THRESHOLD = 8
 ABSENT = 255
@@ -92,6 +92,8 @@ class Refusal(enum.IntEnum):
     CHANGES_FULL = 17, "the changes would pass 2048"
     SLOTS_FULL = 18, "there are 96 slots already"
     UNREADABLE = 19, "the line cannot be read"
+    BACKWARD = 20, "the first value is above the last"
+    SHORT_LIST = 21, "the list is shorter than the answer"
 
 
 # The refusals at which an index goes on once it was created again from its own rows.
@@ -155,8 +157,11 @@ class Answer(ctypes.Structure):
 
 
 GONE = 4
-ARGUMENTS = {"create": 1, "begin": 1, "query": 3, "read": 2, "update": 3, "delete": 2, "insert": 2, "commit": 1, "tidy": 2, "abort": 1}
+ARGUMENTS = {"create": 1, "begin": 1, "query": 3, "span": 3, "read": 2, "update": 3, "delete": 2, "insert": 2, "commit": 1, "tidy": 2,
+             "abort": 1}
 LENT = [ctypes.c_void_p, ctypes.c_size_t]
+# The calls that a buffer is lent to after the tables: a query's scratch, a span's list.
+BUFFERED = ("query", "span")
 _library = None
 
 
@@ -182,7 +187,7 @@ def library():
             for name, count in ARGUMENTS.items():
                 call = getattr(loaded, "kv_" + name)
                 call.restype = Answer
-                call.argtypes = LENT * len(TABLES) + LENT * (name == "query") + [ctypes.c_uint64] * count + LENT * (name == "create")
+                call.argtypes = LENT * len(TABLES) + LENT * (name in BUFFERED) + [ctypes.c_uint64] * count + LENT * (name == "create")
         except (OSError, AttributeError) as why:
             raise Unavailable(f"{path} cannot be used: {why}") from why
         _library = loaded
@@ -384,13 +389,14 @@ def rows_of(words):
 
 
 class Index:
-    """The index: the ten calls, each under the lock. `with index:` holds the lock over several."""
+    """The index: the eleven calls, each under the lock. `with index:` holds the lock over several."""
 
     def __init__(self, tables=None):
         """An index in memory, all tables 0 until the first create."""
         self._library = library()
         self._tables = Memory() if tables is None else tables
         self._scratch = (ctypes.c_uint64 * VECTOR)()
+        self._list = (ctypes.c_uint16 * LIMITS.rows)()
         self._lock = threading.RLock()
         self._depth = 0
 
@@ -426,7 +432,7 @@ class Index:
         finally:
             self._lock.release()
 
-    # The ten calls.
+    # The eleven calls.
 
     def create(self, values, column):
         """A new index of so many values, with a value for each row, None where it is absent. All sessions are freed."""
@@ -451,6 +457,12 @@ class Index:
             if answer.c:
                 words = (ctypes.c_uint64 * VECTOR).from_address(self._tables.address + OFFSETS["words"] + 8 * VECTOR * (answer.c - 1))
             return Found(answer.a, bool(answer.b), rows_of(words))
+
+    def span(self, session, first, last):
+        """The rows that hold any value from first to last, both ends in, in the session's snapshot: a list, ascending, each row once."""
+        with self:
+            answer = self._call("span", session, first, last, more=(ctypes.addressof(self._list), LIMITS.rows))
+            return self._list[:answer.a]
 
     def read(self, session, row):
         """The value of a row in the session's snapshot, None where it is absent."""
@@ -564,6 +576,10 @@ class Session:
     def query(self, value, threshold=THRESHOLD):
         """The rows that hold a value, with flips and due."""
         return self._ask("query", value, threshold)
+
+    def span(self, first, last):
+        """The rows that hold any value from first to last, both ends in, ascending."""
+        return self._ask("span", first, last)
 
     def read(self, row):
         """The value of a row."""

@@ -4,6 +4,7 @@ over the archive that ARCHIVE names. They work from any folder and through a lin
 import contextlib
 import io
 import os
+import platform
 import re
 import shutil
 import subprocess
@@ -73,6 +74,25 @@ class Examples(unittest.TestCase):
             code = [line.strip() for line in file]
         for line in shown.splitlines():
             self.assertIn(line.split("  #")[0].strip(), code)
+
+    @unittest.skipUnless("ARCHIVE" in os.environ and platform.machine() == "x86_64", "ARCHIVE names no archive, or the library cannot be loaded here")
+    def test_over_the_library(self):
+        """The same evening and season over the library, where the worklist is one call."""
+        for name in ("marking", "season"):
+            self.assertEqual(printed([*script(name + ".py"), "--library"]), wanted(name + ".out"))
+
+    def test_without_the_library(self):
+        """Where there is no library, one line says so; over a program the worklist is merged from queries, and is the same."""
+        run = ran([*script("marking.py"), "--library"], env=dict(os.environ, KERENVUF_LIBRARY="/nowhere/lib.so"))
+        self.assertEqual((run.returncode, run.stdout, run.stderr.count("\n")), (1, "", 1))
+        self.assertRegex(run.stderr, "^marking.py: (no library at /nowhere/lib.so|the library is for x86-64)")
+        index = marking.Index(PROGRAM or SECOND[:1] + ["-u"] + SECOND[1:])
+        self.addCleanup(index.close)
+        index.ask("column", 4, 2, 0, None, 1, 3, 0)
+        index.ask("begin", 0)
+        self.assertEqual([index.span(0, 0, 1), index.span(0, 1, 3), index.span(0, 0, 0), index.span(0, 0, 3)],
+                         [[1, 3, 5], [0, 3, 4], [1, 5], [0, 1, 3, 4, 5]])
+        self.assertEqual(marking.worklist(index), [1, 3, 5])
 
     @unittest.skipUnless("ARCHIVE" in os.environ, "ARCHIVE names no archive")
     def test_marking_in_c(self):

@@ -62,12 +62,16 @@ class Header(unittest.TestCase):
             wanted = [[name, str(size), str(length), str(kerenvuf.OFFSETS[name])] for name, size, length in kerenvuf.TABLES]
             self.assertEqual(tables, wanted)
             self.assertIn(f"all {kerenvuf.SIZE}", said)
+            self.assertIn(f"list {kerenvuf.LIMITS.rows}", said)
             self.assertIn(f"version {kerenvuf.VERSION} {kerenvuf.VERSION} layout {kerenvuf.LAYOUT}", said)
 
-    def test_null_pointers(self):
-        """A null pointer with length 0: a table 1, a scratch 10, a column one of no rows, the picker 0."""
-        wanted = ["create of no column 0 rows 0", "begin 0", "query without a scratch 10",
-                  *(f"begin without table {place} 1" for place in range(7)), "create of nothing 1", "picked of nothing 0"]
+    def test_calls(self):
+        """A null pointer with length 0: a table 1, a scratch 10, a column one of no rows, a list one of no cells, the picker 0. Then a
+        span of one row."""
+        wanted = ["create of no column 0 rows 0", "begin 0", "query without a scratch 10", "span of no rows without a list 0 rows 0",
+                  *(f"begin without table {place} 1" for place in range(7)), "create of nothing 1", "picked of nothing 0",
+                  "span without a list SHORT_LIST", "span the wrong way round BACKWARD", "span without a table 1", "lists 7 7",
+                  "span 0 1 1, lists 1 7"]
         for language in LANGUAGES:
             self.assertEqual(printed(language, calls=True)[-len(wanted):], wanted)
 

@@ -85,6 +85,22 @@ class Calls(InFolder):
         for place, (line, answer) in enumerate(readable(kind, count, seed)):
             self.assertEqual(asked(index, line), answer, (kind, seed, place, line[:60]))
 
+    def test_spans(self):
+        """Spans of open sessions between the lines of a run, in memory and in a file."""
+        for kind, path in (("mixed", None), ("evening", None), ("limits", None), ("mixed", self.path)):
+            index, spans = self.opened(path, sync=False) if path else Index(), 0
+            for line, answer in zip(*runs.with_spans(kind, 2500, 15, rules.Index())):
+                said = answer.decode()
+                if not line.startswith(b"span "):
+                    if said != "no 19":
+                        asked(index, line)
+                elif said != "no 19":
+                    _, count, *rows = said.split(" ")
+                    self.assertEqual(index.span(*map(int, line.split()[1:])), list(map(int, rows)), (kind, line))
+                    self.assertEqual(int(count), len(rows))
+                    spans += 1
+            self.assertGreater(spans, 500, kind)
+
     def test_in_memory(self):
         """Runs of each kind, in memory."""
         for kind, count in (("mixed", 6000), ("limits", 12000), ("evening", 4000), ("bad", 3000)):
@@ -144,7 +160,7 @@ class Calls(InFolder):
         wanted = re.findall(r"print\(.*?\)  +# (.*)", shown)
         run = self.elsewhere(textwrap.dedent(shown), cwd=self.folder)
         self.assertEqual((run.communicate()[0].splitlines(), run.returncode), (wanted, 0))
-        self.assertEqual((len(wanted), self.opened().column()), (2, [1, 1, 0, 0, 2]))
+        self.assertEqual((len(wanted), self.opened().column()), (3, [1, 1, 0, 0, 2]))
 
     def test_numbers_of_any_size(self):
         """A number that no 64 bits hold is out of range, and never another number."""
@@ -153,6 +169,7 @@ class Calls(InFolder):
         index.begin(0)
         for far in (-1, 1 << 64, 1 << 70, (1 << 64) - 1):
             for name, numbers, refusal in (("begin", [far], "NO_SESSION"), ("read", [0, far], "NO_ROW"), ("insert", [0, far], "NO_VALUE"),
+                                           ("span", [0, far, 3], "NO_VALUE"), ("span", [0, 0, far], "NO_VALUE"),
                                            ("create", [far, []], "BAD_COLUMN"), ("create", [4, [far]], "BAD_COLUMN")):
                 with self.assertRaises(Refused) as raised:
                     getattr(index, name)(*numbers)
@@ -203,6 +220,26 @@ class Refusals(unittest.TestCase):
         self.refuses("NO_ROW", index.read, 3, 5)
         self.refuses("ROW_ABSENT", index.update, 3, 4, 0)
         self.refuses("LIST_EMPTY", index.commit, 3)
+
+    def test_spans(self):
+        """4, 5, 6 at either end and 20, in this order; 21 where a shorter list is lent, and then no cell of it is written."""
+        index = self.index
+        self.refuses("NO_SESSION", index.span, 16, 9, 0)
+        self.refuses("NOT_OPEN", index.span, 3, 9, 0)
+        index.begin(3)
+        self.refuses("NO_VALUE", index.span, 3, 4, 0)
+        self.refuses("NO_VALUE", index.span, 3, 0, 4)
+        self.refuses("BACKWARD", index.span, 3, 2, 1)
+        with self.assertRaisesRegex(Refused, r"span\(3, 2, 1\) was refused by 20, BACKWARD: the first value is above the last"):
+            index.span(3, 2, 1)
+        self.assertEqual(index.span(3, 0, 1), [0, 1, 2])
+        index._list[:] = [9] * LIMITS.rows
+        with mock.patch.object(kerenvuf, "LIMITS", LIMITS._replace(rows=2)):
+            self.refuses("SHORT_LIST", index.span, 3, 0, 1)
+        self.assertEqual(list(index._list), [9] * LIMITS.rows)
+        with mock.patch.object(kerenvuf, "LIMITS", LIMITS._replace(rows=3)):
+            self.assertEqual(index.span(3, 0, 1), [0, 1, 2])
+        self.assertEqual(list(index._list), [0, 1, 2] + [9] * (LIMITS.rows - 3))
 
     def test_list(self):
         """9, and 12 with the session still open."""
@@ -300,9 +337,11 @@ class Sessions(InFolder):
                 marker.commit()
                 self.assertEqual(list(early), [(0, 0), (1, 2), (2, None), (3, 0)])
                 self.assertEqual((early.rows(0), early.read(3).value, len(early)), ((0, 3), 0, 4))
+                self.assertEqual((early.span(0, 2), early.span(2, 3), early.span(3, 3)), ([0, 1, 3], [1], []))
                 self.assertEqual(early.query(0), (0, False, (0, 3)))
             with index.session() as late:
                 self.assertEqual(dict(late), {0: 0, 1: 2, 2: None, 3: 3})
+                self.assertEqual((late.span(0, 2), late.span(2, 3)), ([0, 1], [1, 3]))
                 self.assertEqual(late.tidy(3), (2, 1))
 
     def test_over_is_over(self):
@@ -313,9 +352,10 @@ class Sessions(InFolder):
                 first.commit()
                 with index.session() as other:
                     self.assertEqual(other.number, first.number)
-                    with self.assertRaises(Refused) as raised:
-                        first.update(0, 2)
-                    self.assertEqual(raised.exception.name, "NOT_OPEN")
+                    for call in (first.update, first.span):
+                        with self.assertRaises(Refused) as raised:
+                            call(0, 2)
+                        self.assertEqual(raised.exception.name, "NOT_OPEN")
                     self.assertEqual(index.sessions()[0].length, 0)
             with index.session() as first:
                 index.create(4, [0])
