@@ -19,6 +19,9 @@ from tables import ABSENT, MOST_CHANGES, MOST_RECORDS, MOST_ROWS, MOST_VALUES, S
 
 Workload = namedtuple("Workload", "name runup lines")
 
+# Spans of so many values on the tables that a run-up leaves; bench/spans.c makes them.
+Spans = namedtuple("Spans", "name runup values")
+
 # A growth series: what grows, its unit, its points, and for each call the workload at each point.
 Series = namedtuple("Series", "name unit points calls")
 
@@ -98,6 +101,12 @@ def workloads():
     """The workloads of the first table; in the grown tables, inserts brought the last 48 rows."""
     tables = [full("full tables", MOST_ROWS), full("full tables, grown", MOST_ROWS - 48)]
     return [evening()] + tables + [columns(8), columns(32)]
+
+
+def spans():
+    """Spans of a quarter of the values and of all, on tables that are full."""
+    runup = full("full tables", MOST_ROWS).runup
+    return [Spans("span of %d values, full tables" % values, runup, values) for values in (8, MOST_VALUES)]
 
 
 VALUES = 4

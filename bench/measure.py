@@ -1,10 +1,11 @@
-"""Prints what a line costs a program, beside what it costs the plain baseline.
+"""Prints what a line costs a program, beside what it costs the plain baseline; and what a span costs the archive.
 
-    python3 bench/measure.py PLAIN PROGRAM
+    python3 bench/measure.py PLAIN PROGRAM [SPANS]
 
 The cost of a line is that of an input with the lines less that of its run-up alone, divided by their number. It is
 counted in executed instructions; where neither valgrind nor perf can count them, it is processor time, and growth,
-a small difference of large times, is left out.
+a small difference of large times, is left out. A span has no line: SPANS is bench/spans.c, built with the archive, and the
+cost of a span is that of twice as many spans less that of so many, divided by their number.
 """
 
 import os
@@ -24,8 +25,10 @@ TUNABLES = "glibc.cpu.x86_rep_stosb_threshold=%d:glibc.cpu.x86_rep_movsb_thresho
 ENVIRONMENT = dict(os.environ, GLIBC_TUNABLES=TUNABLES)
 TIMED_LINES = 30000
 TIMED_RUNS = 5
+# So many spans: each of 14 sessions asks for each quarter of the values.
+SPAN_CALLS = 56
 
-# How costs are taken: the unit, a function of the program and its input, and the number of lines that it needs.
+# How costs are taken: the unit, a function of the program and its input, and the number of lines or calls that it needs.
 Meter = namedtuple("Meter", "unit cost lines")
 
 
@@ -42,14 +45,14 @@ def run(command, data):
 @lru_cache(maxsize=None)
 def by_valgrind(program, data):
     """Instructions as valgrind counts them."""
-    _, said = run(["valgrind", "--tool=callgrind", "--callgrind-out-file=/dev/null", program], data)
+    _, said = run(["valgrind", "--tool=callgrind", "--callgrind-out-file=/dev/null", *program], data)
     return int(re.search(r"Collected : (\d+)", said).group(1))
 
 
 @lru_cache(maxsize=None)
 def by_perf(program, data):
     """Instructions as the processor counts them."""
-    _, said = run(["perf", "stat", "-x,", "-e", "instructions:u", program], data)
+    _, said = run(["perf", "stat", "-x,", "-e", "instructions:u", *program], data)
     return int(re.search(r"^(\d+),", said, re.MULTILINE).group(1))
 
 
@@ -58,7 +61,7 @@ def by_time(program, data):
     times = []
     for _ in range(TIMED_RUNS):
         before = resource.getrusage(resource.RUSAGE_CHILDREN).ru_utime
-        run([program], data)
+        run(program, data)
         times.append(resource.getrusage(resource.RUSAGE_CHILDREN).ru_utime - before)
     return min(times) * 1e9
 
@@ -74,10 +77,10 @@ def counts(cost, program):
 def meter_here(program):
     """The best meter that works here."""
     if shutil.which("valgrind") and counts(by_valgrind, program):
-        return Meter("instructions per line, counted by valgrind", by_valgrind, 1)
+        return Meter("instructions per line or call, counted by valgrind", by_valgrind, 1)
     if shutil.which("perf") and counts(by_perf, program):
-        return Meter("instructions per line, counted by perf", by_perf, 1)
-    return Meter("nanoseconds per line", by_time, TIMED_LINES)
+        return Meter("instructions per line or call, counted by perf", by_perf, 1)
+    return Meter("nanoseconds per line or call", by_time, TIMED_LINES)
 
 
 def text(lines):
@@ -88,7 +91,7 @@ def text(lines):
 def refused(workload, programs):
     """How many of the measured lines are refused; raises Different unless the programs answer alike."""
     data = text(workload.runup + workload.lines)
-    answers = [run([program], data)[0] for program in programs]
+    answers = [run(program, data)[0] for program in programs]
     if any(answer != answers[0] for answer in answers):
         raise Different("the programs answer differently: " + workload.name)
     return sum(line.startswith(b"no") for line in answers[0].split(b"\n")[len(workload.runup):])
@@ -110,6 +113,25 @@ def print_workloads(meter, programs):
         plain, program = (cost_of(meter, each, workload) for each in programs)
         shown = (workload.name, len(workload.lines), no, plain, program, program / plain)
         print("%-28s%8d%9d%10.0f%10.0f%8.2f" % shown, flush=True)
+
+
+def spanned(program, plan, calls, *more):
+    """The commands that make so many spans of a plan: in plain C, and by the archive."""
+    return [(program, way, str(plan.values), str(calls), *more) for way in ("plain", "archive")]
+
+
+def print_spans(meter, program):
+    """The table of the spans."""
+    print("\n%-32s%8s%10s%10s%8s" % ("", "calls", "plain", "archive", "ratio"))
+    calls = SPAN_CALLS * -(-meter.lines // SPAN_CALLS)
+    for plan in inputs.spans():
+        data = text(plan.runup)
+        plain, archive = (run(command, data)[0] for command in spanned(program, plan, SPAN_CALLS, "show"))
+        if plain != archive or plain.count(b"\nspan 0 ") != SPAN_CALLS + 1:
+            raise Different("the spans differ, or one is refused: " + plan.name)
+        some, twice = (spanned(program, plan, number) for number in (calls, 2 * calls))
+        plain, archive = ((meter.cost(more, data) - meter.cost(less, data)) / calls for less, more in zip(some, twice))
+        print("%-32s%8d%10.0f%10.0f%8.2f" % (plan.name, calls, plain, archive, archive / plain), flush=True)
 
 
 def row(form, numbers):
@@ -137,12 +159,14 @@ def print_series(meter, programs, series):
 
 
 def main():
-    """Measures two programs."""
-    programs = [os.path.abspath(program) for program in sys.argv[1:3]]
+    """Measures two programs, and the spans."""
+    programs = [(os.path.abspath(program),) for program in sys.argv[1:3]]
     meter = meter_here(programs[0])
     print(meter.unit)
     try:
         print_workloads(meter, programs)
+        for spans in sys.argv[3:4]:
+            print_spans(meter, os.path.abspath(spans))
         if meter.cost is not by_time:
             for series in inputs.growth():
                 print_series(meter, programs, series)

@@ -1,5 +1,6 @@
 // The step program of document 01 in plain C: the same tables, and the same damage check on each call, as the proved
-// program, written by hand for speed. It is the baseline that bench/run measures the proved program against.
+// program, written by hand for speed. It is the baseline that bench/run measures the proved program against. A span of
+// values has no line: bench/spans.c calls it.
 
 #include <errno.h>
 #include <stdbool.h>
@@ -29,7 +30,7 @@ enum {
     BLOCK = 64,      // so many changes are searched for a row at once
 };
 
-// 01's refusal numbers. 1 and 10 never occur: the program lends its tables and its scratch in full.
+// The refusal numbers. 1 and 10 never occur: the program lends its tables and its scratch in full.
 enum {
     DAMAGED = 2,
     BAD_COLUMN = 3,
@@ -48,6 +49,8 @@ enum {
     CHANGES_FULL = 17,
     SLOTS_FULL = 18,
     UNREADABLE = 19,
+    BACKWARD = 20,
+    SHORT_LIST = 21,
 };
 
 // A session, free or open; entry i is a row `at` with its target `to`, or an insert of `to`. A free one is all 0.
@@ -413,6 +416,29 @@ static char *query(char *out, u32 n, u32 v) {
     }
     out = put(put(ok(out, count), count > THRESHOLD), count_rows(vector));
     return put_rows(out, vector);
+}
+
+// The rows that v has at stamp s join others. By itself, so that the loop over the changes keeps what it needs in registers.
+static __attribute__((noinline)) void add_value(u64 *all, u32 s, u32 v) {
+    u64 mask[WORDS];
+    u32 slot = version(v, s);
+    flips(mask, end_at(slot_stamp[slot]), end_at(s), v);
+    for (u32 i = 0; i < WORDS; i++) all[i] |= words[slot][i] ^ mask[i];
+}
+
+// Span: the refusal, or 0; then `count` rows are in the list's first cells, ascending.
+static u32 span(u16 *list, u32 length, u32 n, u32 first, u32 last, u32 *count) {
+    u32 why = not_valued(n, first);
+    if (why != 0) return why;
+    if (last >= clock.values) return NO_VALUE;
+    if (first > last) return BACKWARD;
+    u64 all[WORDS] = {0};
+    for (u32 v = first; v <= last; v++) add_value(all, sessions[n].start, v);
+    *count = count_rows(all);
+    if (length < *count) return SHORT_LIST;
+    for (u32 i = 0; i < WORDS; i++)
+        for (u64 word = all[i]; word != 0; word &= word - 1) *list++ = (u16)(64 * i + (u32)__builtin_ctzll(word));
+    return 0;
 }
 
 // Read.
