@@ -39,7 +39,7 @@ heardList list (numbers (k ∷ ns)) = found (take k list)
 heardList list (value x) = rules.value x
 heardList list (words n due place) = listed n due []
 
--- the list among the further buffers: the first
+-- what is heard of what a call came to; the list of a span is the first of the further buffers
 abbrev pub heard : Call → Outcome → Answer
 heard (create C col) o = heardPicked o
 heard (begin i) o = heardPicked o
