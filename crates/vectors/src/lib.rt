@@ -1,5 +1,7 @@
 // Vectors: words of 64 rows, bit r of them for the row r; the rows of one listed, and columns turned into them. The contracts cite the
 // definitions of `bits`, where `vec f n` is the n words whose row r is f r. Assumes nothing.
+#![tactic(auto)]
+
 mod columns;
 mod rows;
 mod words;

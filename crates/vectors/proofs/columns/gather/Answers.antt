@@ -1,0 +1,18 @@
+-- `bits::columns::gather` meets its contract.
+use Rattle.bits.proofs.ColumnLaws.{front-words, gather_none, gather-all}
+use native.Mathlib.Omega.{arith}
+use borrow.Author.Rules.{rules}
+use Rattle.vectors.proofs.columns.gather.Goals as goal
+
+pub slice_bounds-clear-end-2 : goal.slice_bounds-clear-end-2
+slice_bounds-clear-end-2 c = search front-words
+
+pub gather_rows-requires : goal.gather_rows-requires
+gather_rows-requires c =
+    let s = c.args in
+    let e = c.clear in
+    let n = c.rows_of_word-n.result in
+    gather_none s.col.now s.i e.new.dst s.own.now n e.ensures (omega arith) (omega arith) (omega arith)
+
+pub returns : goal.returns
+returns c = search gather-all

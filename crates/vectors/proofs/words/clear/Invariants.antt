@@ -1,0 +1,15 @@
+-- `bits::vectors::clear` meets its contract. The invariant: the words before i are 0. The measure is what is left of the words.
+use mathlib.Core.Bool.{false}
+use Prim.Native.Nat.{◌-◌}
+use borrow.Author.Rules.{rules}
+use lib.ListN.{length}
+use Rattle.bits.specs.Vec.{vec, word_of}
+use Rattle.bits.proofs.VecLaws.{word_none}
+use Rattle.bits.proofs.TabLaws.{Filled, filled_none, filled_more, filled-all}
+use Rattle.vectors.proofs.words.clear.Given as goal
+
+abbrev pub invariant-loop-i : goal.invariant-loop-i
+invariant-loop-i l = Filled (word_of (λ r. false)) l.initial.dst l.dst l.i
+
+abbrev pub decreases-loop-i : goal.decreases-loop-i
+decreases-loop-i l = length l.initial.dst - l.i

@@ -1,0 +1,16 @@
+-- `bits::vectors::rest_of` meets its contract. The invariant: `all` is the OR of the words from `from` to j of the vector. The
+-- measure is what is left of the 32 words.
+use mathlib.Core.Path.{◌≡◌}
+use Prim.Native.Nat.{◌+◌, ◌-◌, ◌*◌, ◌≤◌}
+use borrow.Author.Rules.{rules}
+use lib.ListN.{get_or}
+use Rattle.bits.specs.OrWords.{or_from}
+use Rattle.bits.proofs.OrLaws.{from-none}
+use Rattle.bits.proofs.VectorLaws.{rest_more, rest_end}
+use Rattle.vectors.proofs.words.rest_of.Given as goal
+
+abbrev pub invariant-loop-j : goal.invariant-loop-j
+invariant-loop-j l = (l.a ≡ 32 * l.i) × (l.from ≤ l.j) × (l.j ≤ 32) × (l.all ≡ or_from (λ k. get_or l.words (l.a + k) 0) l.from l.j)
+
+abbrev pub decreases-loop-j : goal.decreases-loop-j
+decreases-loop-j l = 32 - l.j

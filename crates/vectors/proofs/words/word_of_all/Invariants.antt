@@ -1,0 +1,17 @@
+-- `bits::vectors::word_of_all` meets its contract. The invariant: `all` is the OR of word j of the first i vectors. The measure is
+-- what is left of the vectors.
+use mathlib.Core.Path.{◌≡◌, ap, ◌∙◌}
+use Prim.Native.Nat.{◌+◌, ◌-◌, ◌*◌, ◌≤◌}
+use native.Mathlib.Omega.{arith}
+use borrow.Author.Rules.{rules}
+use lib.ListN.{get_or}
+use Rattle.bits.specs.OrWords.{or_below}
+use Rattle.bits.proofs.OrLaws.{or-zero, or-more}
+use Rattle.bits.specs.Vectors.{word_of_all}
+use Rattle.vectors.proofs.words.word_of_all.Given as goal
+
+abbrev pub invariant-loop-i : goal.invariant-loop-i
+invariant-loop-i l = (l.i ≤ l.n) × (l.all ≡ or_below (λ k. get_or l.words (32 * k + l.j) 0) l.i)
+
+abbrev pub decreases-loop-i : goal.decreases-loop-i
+decreases-loop-i l = l.n - l.i

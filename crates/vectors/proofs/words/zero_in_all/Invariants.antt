@@ -1,0 +1,18 @@
+-- `bits::vectors::zero_in_all` meets its contract. The invariant: `all` is the OR of the words from `from` on of the first i
+-- vectors. The measure is what is left of the vectors.
+use mathlib.Core.Path.{◌≡◌, ap, ◌∙◌}
+use Prim.Native.Nat.{ℕ, ◌-◌, ◌≤◌}
+use native.Mathlib.Omega.{arith}
+use borrow.Author.Rules.{rules}
+use lib.Bits.{bit_or}
+use lib.Dec.{eqb}
+use Rattle.bits.specs.OrWords.{or_below}
+use Rattle.bits.proofs.OrLaws.{or-zero, or-more, or-all}
+use Rattle.bits.specs.Vectors.{rest_of, zeros_of_all}
+use Rattle.vectors.proofs.words.zero_in_all.Given as goal
+
+abbrev pub invariant-loop-i : goal.invariant-loop-i
+invariant-loop-i l = (l.i ≤ l.n) × (l.all ≡ or_below (rest_of l.words l.from) l.i)
+
+abbrev pub decreases-loop-i : goal.decreases-loop-i
+decreases-loop-i l = l.n - l.i
