@@ -1,4 +1,6 @@
 // The fields of a line, by their places, and the numbers in them. Assumes nothing.
+#![tactic(auto)]
+
 ghost use Rattle.std.specs.Prelude.{◌≡◌, true, ◌-◌, ◌<◌, ◌≤◌, length};
 ghost use Rattle.fields.specs.Number.{is_digit, number};
 ghost use Rattle.fields.specs.Places.{end_at, nothing, start_by, field_by};

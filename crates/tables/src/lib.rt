@@ -1,5 +1,7 @@
 // The lent tables: the three counts as types, the clock record, a session, and where each number lies in the cells.
 // No table is indexed outside these functions and the damage check. Assumes nothing.
+#![tactic(auto)]
+
 mod cells;
 mod clock;
 mod counts;
