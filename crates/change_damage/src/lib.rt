@@ -1,5 +1,7 @@
 // Refusal 2's sentence on changes: rows below their record's row count, sets below C. It runs at every call. The contract is an
 // equality with the definition of tables/specs. Assumes nothing.
+#![tactic(auto)]
+
 ghost use Rattle.std.specs.Prelude.{◌≡◌, true, ◌+◌, ◌<◌, ◌≤◌, length};
 ghost use Rattle.bits.specs.All.{all_below};
 ghost use Rattle.tables.specs.Damage.{all_in, clock_fits, records_fit, changes_fit};

@@ -1,4 +1,6 @@
 // The search for a record after the start that names a listed row: a conflict. Assumes nothing.
+#![tactic(auto)]
+
 ghost use Rattle.std.specs.Prelude.{◌≡◌, ◌<◌, ◌≤◌, length};
 ghost use Rattle.bits.specs.Tab.{tab};
 ghost use Rattle.rules.specs.Commit.{conflicts, some_of, hits};

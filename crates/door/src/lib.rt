@@ -14,13 +14,13 @@ use outcomes::Answer;
 use tables::Session;
 
 // The session table of a program that holds it.
-#[derive(Drop)]
+#[derive(Clone, Copy)]
 pub struct Sessions {
     pub at: [Session; 16],
 }
 
 // A call's answer, and the session that stands afterwards at the place it was about.
-#[derive(Drop)]
+#[derive(Clone, Copy)]
 pub struct Held {
     pub answer: Answer,
     pub session: Session,

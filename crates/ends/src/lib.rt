@@ -9,21 +9,21 @@ use libc::{STDIN_FILENO, STDOUT_FILENO};
 pub use watch::{Watch, fresh};
 
 // The watches on the bytes handed to the writer, and on those that the system took of them.
-#[derive(Drop)]
+#[derive(Clone, Copy)]
 pub struct Told {
     pub handed: Watch,
     pub taken: Watch,
 }
 
 // The writer: whether no write has failed, and what it was told.
-#[derive(Drop)]
+#[derive(Clone, Copy)]
 pub struct Writer {
     pub well: bool,
     pub told: Told,
 }
 
 // A read: how many bytes it gave, whether it did not fail, and the watch on the bytes read.
-#[derive(Drop)]
+#[derive(Clone, Copy)]
 pub struct Heard {
     pub n: usize,
     pub well: bool,
@@ -31,7 +31,7 @@ pub struct Heard {
 }
 
 // A write: how many bytes the system took, whether another may follow, and the watch on the bytes taken.
-#[derive(Drop)]
+#[derive(Clone, Copy)]
 struct Wrote {
     taken: usize,
     on: bool,
@@ -39,7 +39,7 @@ struct Wrote {
 }
 
 // Writes, one after another: whether the system took all bytes, and the watch on the bytes taken.
-#[derive(Drop)]
+#[derive(Clone, Copy)]
 struct Sent {
     well: bool,
     watch: Watch,

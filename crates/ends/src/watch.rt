@@ -5,7 +5,7 @@ ghost use Rattle.std.specs.Prelude.{◌≡◌, ◌≤◌, length, take};
 ghost use Rattle.ends.specs.Watch as watching;
 
 // How many bytes are still to go by before the watched one; whether it is past; and which byte it was.
-#[derive(Drop)]
+#[derive(Clone, Copy)]
 pub struct Watch {
     pub until: usize,
     pub past: bool,

@@ -6,7 +6,7 @@ ghost use Rattle.fields.specs.Number.{is_digit, number};
 ghost use Rattle.fields.specs.Places.{end_at, nothing, start_by, field_by};
 
 // What was read of a field, 10,000 for nothing, and the place after the field.
-#[derive(Drop)]
+#[derive(Clone, Copy)]
 pub struct Field {
     pub value: u64,
     pub next: usize,

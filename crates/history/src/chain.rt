@@ -5,7 +5,7 @@ ghost use Rattle.history.specs.Version.{version_slot, slot_seen, base_seen, Head
 use tables::{Stamp, Value};
 
 // A version: its slot, and where the changes after its stamp start.
-#[derive(Drop)]
+#[derive(Clone, Copy)]
 pub struct Base {
     pub slot: usize,
     pub from: usize,

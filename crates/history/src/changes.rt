@@ -8,7 +8,7 @@ ghost use Rattle.history.specs.Last.{last_place, last_of};
 use tables::Row;
 
 // The last change that names a row: one more than its place (0: there is none), and its flip set (0: there is none).
-#[derive(Drop)]
+#[derive(Clone, Copy)]
 pub struct Last {
     pub at: usize,
     pub set: u32,

@@ -6,7 +6,7 @@ use crate::{chain, mask, vector};
 use tables::{Stamp, Value};
 
 // What a query found: the slot of the version, and how many rows are flipped.
-#[derive(Drop)]
+#[derive(Clone, Copy)]
 pub struct Found {
     pub slot: usize,
     pub flips: u32,

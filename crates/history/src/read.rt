@@ -8,7 +8,7 @@ use crate::{chain, changes, vector};
 use tables::{Row, Stamp, Value};
 
 // What a row holds.
-#[derive(Drop)]
+#[derive(Clone, Copy)]
 pub enum Standing {
     Holds(Value),
     Absent,

@@ -10,7 +10,7 @@ use outcomes::{Answer, Place};
 // An answer: the refusal, or 0; what it holds (0 refused, 1 count, 2 stamp and count, 3 value, 4 absent, 5 query); its numbers, 0 where
 // the kind names none.
 #[repr(C)]
-#[derive(Drop)]
+#[derive(Clone, Copy)]
 pub struct KvAnswer {
     pub refusal: u32,
     pub kind: u32,

@@ -6,7 +6,7 @@ use crate::sessions::{all_fit, place, places};
 use tables::Session;
 
 // How many places there are, whether every one fits, and the one session that the call names.
-#[derive(Drop)]
+#[derive(Clone, Copy)]
 pub struct Seat {
     pub places: usize,
     pub fit: bool,

@@ -8,7 +8,7 @@ use tables::Session;
 
 // What a line leaves of the sessions: where `anew` all are free, else where `put` this one stands at this place; the others stand as
 // they did.
-#[derive(Drop)]
+#[derive(Clone, Copy)]
 pub struct Left {
     pub place: usize,
     pub session: Session,
@@ -17,7 +17,7 @@ pub struct Left {
 }
 
 // What a line comes to beside the lent tables: how many bytes its answer has, and what it leaves of the sessions.
-#[derive(Drop)]
+#[derive(Clone, Copy)]
 pub struct Lined {
     pub len: usize,
     pub left: Left,

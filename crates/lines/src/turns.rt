@@ -15,7 +15,7 @@ use tables::Refusal;
 use text::{Request, Word};
 
 // What a request comes to beside the lent tables: its answer, and what it leaves of the sessions.
-#[derive(Drop)]
+#[derive(Clone, Copy)]
 pub struct Done {
     pub answer: Answer,
     pub left: Left,

@@ -6,7 +6,7 @@ use history::Standing;
 use tables::{Refusal, Row, Session, Stamp};
 
 // Where a query's words stand: a slot's own, or the scratch's first 32.
-#[derive(Drop)]
+#[derive(Clone, Copy)]
 pub enum Place {
     Slot(usize),
     Scratch,
@@ -15,7 +15,7 @@ pub enum Place {
 // A call's answer. `Count` is create's row count, span's number of rows, the list's length (update, delete, insert) or the length
 // dropped (abort); `At` a stamp with a row count (begin, commit) or with the number of rows moved (tidy); `Read` is read's;
 // `Listed` is query's: flip count, due, and where the words stand.
-#[derive(Drop)]
+#[derive(Clone, Copy)]
 pub enum Answer {
     No(Refusal),
     Count(u32),
@@ -25,7 +25,7 @@ pub enum Answer {
 }
 
 // What begin comes to: its answer, and whether the session is opened, at this start and row count.
-#[derive(Drop)]
+#[derive(Clone, Copy)]
 pub struct Begun {
     pub answer: Answer,
     pub yes: bool,
@@ -34,7 +34,7 @@ pub struct Begun {
 }
 
 // What update, delete and insert come to: the answer, and whether the session is put back, with this list.
-#[derive(Drop)]
+#[derive(Clone, Copy)]
 pub struct Relisted {
     pub answer: Answer,
     pub yes: bool,
@@ -42,7 +42,7 @@ pub struct Relisted {
 }
 
 // What commit, abort and create come to: the answer, and whether the session, or every one, is freed.
-#[derive(Drop)]
+#[derive(Clone, Copy)]
 pub struct Freed {
     pub answer: Answer,
     pub yes: bool,

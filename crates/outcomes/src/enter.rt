@@ -6,7 +6,7 @@ use lent::Seat;
 use tables::{Refusal, Row, Stamp, Value};
 
 // Whether a call may go on, or why not.
-#[derive(Drop)]
+#[derive(Clone, Copy)]
 pub enum Test {
     Passed,
     No(Refusal),

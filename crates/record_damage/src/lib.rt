@@ -1,5 +1,7 @@
 // Refusal 2's sentences on records: each bears its stamp and a kind, its row count and its end do not fall, and the last end at the counts.
 // They run at every call. The contract is an equality with the definition of tables/specs. Assumes nothing.
+#![tactic(auto)]
+
 ghost use Rattle.std.specs.Prelude.{◌≡◌, true, ◌||◌, ◌+◌, ◌<◌, ◌≤◌, length, eqb};
 ghost use Rattle.tables.specs.Damage.{all_in, clock_fits, record_fits, records_fit};
 ghost use Rattle.record_damage.specs.Parts.{gap};

@@ -1,5 +1,7 @@
 // Refusal 2's sentence on sessions: whether one session is free and all 0, or open and sound. It runs for each of the sixteen at every
 // call. The contract is an equality with the definition of specs/. Assumes nothing.
+#![tactic(auto)]
+
 ghost use Rattle.std.specs.Prelude.{◌≡◌, true, ◌%◌, ◌<◌, ◌≤◌};
 ghost use Rattle.bits.specs.All.{all_below};
 ghost use Rattle.bits.specs.Bit.{bit, set_bit};

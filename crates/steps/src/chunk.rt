@@ -11,7 +11,7 @@ use text::Fed;
 
 // What stands between two lines: how many bytes are pending of the next one, how many bytes of answers are not yet written,
 // where the chunk goes on, and the sessions.
-#[derive(Drop)]
+#[derive(Clone, Copy)]
 pub struct State {
     pub pending: usize,
     pub filled: usize,

@@ -14,7 +14,7 @@ use lines::Sessions;
 
 // What stands between two reads: how many bytes are pending of the next line, the sessions, whether the input goes on, whether no read and
 // no write has failed, and the watches on the bytes read and on those written.
-#[derive(Drop)]
+#[derive(Clone, Copy)]
 struct Stand {
     pending: usize,
     sessions: Sessions,

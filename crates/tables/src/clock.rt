@@ -7,7 +7,7 @@ ghost use Rattle.tables.specs.Stores.{put_clock, put_moment, put_slots_used, put
 use crate::counts::{Row, Stamp, Value};
 
 // C, the first row count, the stamp and the row count.
-#[derive(Drop)]
+#[derive(Clone, Copy)]
 pub struct Clock {
     pub values: Value,
     pub first: Row,

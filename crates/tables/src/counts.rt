@@ -2,14 +2,14 @@
 
 // A moment: how many commits and tidies were accepted.
 #[repr(C)]
-#[derive(Drop)]
+#[derive(Clone, Copy)]
 pub struct Stamp(pub u32);
 
 // The number of a row; as a count, of the rows below it.
 #[repr(C)]
-#[derive(Drop)]
+#[derive(Clone, Copy)]
 pub struct Row(pub u32);
 
 // The number of a value; as a count, of the values below it.
-#[derive(Drop)]
+#[derive(Clone, Copy)]
 pub struct Value(pub u32);

@@ -3,7 +3,7 @@ ghost use Rattle.std.specs.Prelude.{◌≡◌};
 ghost use Rattle.tables.specs.Refusals.{number_of};
 
 // The reasons, in the order of their numbers.
-#[derive(Drop)]
+#[derive(Clone, Copy)]
 pub enum Refusal {
     NoRoom,
     Damaged,

@@ -10,7 +10,7 @@ pub const NEW: u16 = 65535;
 // A session: whether it is open (1) or free (0), its start, the row count of that moment, and its list. Entry i below
 // `count` is row `at[i]` with target `to[i]` (255: absent), or, where `at[i]` is NEW, an insert of `to[i]`.
 #[repr(C)]
-#[derive(Drop)]
+#[derive(Clone, Copy)]
 pub struct Session {
     pub live: u32,
     pub start: Stamp,

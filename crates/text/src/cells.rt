@@ -10,7 +10,7 @@ ghost use Rattle.text.specs.Short.{short_known, short_value, turned_bytes, Turne
 use fields::Field;
 
 // How many values a column has.
-#[derive(Drop)]
+#[derive(Clone, Copy)]
 pub enum Cells {
     Count(usize),
     Bad,
@@ -109,7 +109,7 @@ fn near_cell(line: &[u8], at: usize) -> Field
 }
 
 // A place in a line, and how many cells stand before it.
-#[derive(Drop)]
+#[derive(Clone, Copy)]
 pub struct Run {
     pub at: usize,
     pub n: usize,

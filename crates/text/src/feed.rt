@@ -86,7 +86,7 @@ pub fn gather(pending: &mut [u8], len: usize, part: &[u8]) -> usize
 
 // Whether a line is whole, which then is the first `line` bytes pending; how many are pending of the next one; where the
 // chunk goes on.
-#[derive(Drop)]
+#[derive(Clone, Copy)]
 pub struct Fed {
     pub whole: bool,
     pub line: usize,

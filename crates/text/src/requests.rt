@@ -9,7 +9,7 @@ use crate::cells::Cells;
 use crate::words::Word;
 
 // What a line asks for: a word and its numbers. A column's are C and the count of its values.
-#[derive(Drop)]
+#[derive(Clone, Copy)]
 pub struct Request {
     pub word: Word,
     pub a: u64,

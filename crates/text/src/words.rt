@@ -4,7 +4,7 @@ ghost use Rattle.text.specs.Bytes.{same};
 ghost use Rattle.text.specs.Words.{word_of, later_word, shape_of};
 
 // The ten words, and any other first field.
-#[derive(Drop)]
+#[derive(Clone, Copy)]
 pub enum Word {
     Column,
     Begin,
@@ -71,7 +71,7 @@ pub fn word_of(field: &[u8]) -> Word
 }
 
 // What follows a word: so many numbers, or C and a column's values. Nothing that follows another field makes a call.
-#[derive(Drop)]
+#[derive(Clone, Copy)]
 pub enum Shape {
     One,
     Two,

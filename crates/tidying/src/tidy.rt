@@ -248,7 +248,7 @@ fn ready(
 
 // What an accepted tidy comes to, before it writes: the clock after it, its slot, where its changes start, where those up to its
 // session's start end, and how many rows it moves.
-#[derive(Drop)]
+#[derive(Clone, Copy)]
 pub struct Plan {
     pub next: Clock,
     pub slot: u32,

@@ -1,0 +1,14 @@
+-- `alike_by` meets its contract: a search; the record that it stands at has the row count of the first.
+use mathlib.Core.Path.{◌≡◌, refl}
+use Prim.Native.Nat.{◌-◌, ◌≤◌, ◌<◌}
+use native.Mathlib.Omega.{arith}
+use borrow.Author.Rules.{rules}
+use Rattle.tables.specs.Cells.{record_rows}
+use Rattle.change_damage.proofs.ChangeLaws.{alike-made, alike_next}
+use Rattle.change_damage.proofs.alike_by.Given as goal
+
+abbrev pub invariant-loop-e : goal.invariant-loop-e
+invariant-loop-e l = (l.k ≤ l.e) × (l.e < l.n) × (l.rows ≡ record_rows l.log l.k) × (record_rows l.log l.e ≡ record_rows l.log l.k)
+
+abbrev pub decreases-loop-e : goal.decreases-loop-e
+decreases-loop-e l = l.n - l.e

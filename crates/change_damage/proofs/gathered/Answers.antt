@@ -1,0 +1,16 @@
+-- `gathered` meets its contract: a fold over the halves.
+use mathlib.Core.Path.{◌≡◌}
+use Prim.Native.Nat.{◌+◌, ◌-◌, ◌/◌, ◌≤◌}
+use native.Mathlib.Omega.{arith}
+use Rattle.bits.specs.OrWords.{or_below}
+use Rattle.change_damage.proofs.GatherLaws.{pair_at, pairs-none, pairs-more, all-gathered}
+use Rattle.change_damage.proofs.gathered.Goals as goal
+
+pub loop-p-init : goal.loop-p-init
+loop-p-init c = (omega arith, omega arith, omega arith, search pairs-none)
+
+pub loop-p-preserved : goal.loop-p-preserved
+loop-p-preserved c = (omega arith, omega arith, omega arith, search pairs-more)
+
+pub returns : goal.returns
+returns c = search all-gathered

@@ -1,0 +1,16 @@
+-- `conflict::entries_named` meets its contract: the whole is what the entries from here on say.
+use mathlib.Core.Path.{◌≡◌, refl}
+use Prim.Native.Nat.{◌-◌}
+use native.Mathlib.Omega.{arith}
+use borrow.Author.Rules.{rules}
+use Rattle.tables.specs.Meaning.{change_at}
+use Rattle.tables.specs.Stretch.{stretch}
+use Rattle.conflict.proofs.ClashLaws.{entries_hit, some-on, some-met, some-ended}
+use Rattle.conflict.proofs.entries_named.Given as goal
+
+abbrev pub invariant-loop-i : goal.invariant-loop-i
+invariant-loop-i l = entries_hit (stretch (change_at l.changes) l.from l.to) l.s 0 l.n ≡ entries_hit (stretch
+    (change_at l.changes) l.from l.to) l.s l.i l.n
+
+abbrev pub decreases-loop-i : goal.decreases-loop-i
+decreases-loop-i l = l.n - l.i

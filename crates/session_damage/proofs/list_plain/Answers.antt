@@ -1,0 +1,15 @@
+-- `list_plain` meets its contract: a fold that carries the bits that were seen.
+use Prim.Native.Nat.{◌-◌, ◌≤◌}
+use native.Mathlib.Omega.{arith}
+use borrow.Author.Rules.{rules}
+use Rattle.session_damage.proofs.PlainLaws.{Plain, plain-none, plain_more, plain_end}
+use Rattle.session_damage.proofs.list_plain.Goals as goal
+
+pub returns : goal.returns
+returns c = plain_end _ _ _ _ _ _ _ _ c.loop-i.invariant.1 (omega arith) (omega arith)
+
+pub loop-i-init : goal.loop-i-init
+loop-i-init c = (omega arith, search plain-none)
+
+pub loop-i-preserved : goal.loop-i-preserved
+loop-i-preserved c = (omega arith, search plain_more)

@@ -1,0 +1,13 @@
+-- `session_fits` meets its contract: a free session, and an open one by its start and its entries.
+use borrow.Author.Rules.{rules}
+use Rattle.session_damage.proofs.JudgedLaws.{free-judged, bad-start, entries-decide}
+use Rattle.session_damage.proofs.session_fits.Goals as goal
+
+pub returns-then-s-ne1 : goal.returns-then-s-ne1
+returns-then-s-ne1 c = search free-judged
+
+pub returns-then-not-start_fits : goal.returns-then-not-start_fits
+returns-then-not-start_fits c = search bad-start
+
+pub returns : goal.returns
+returns c = search entries-decide
