@@ -1,5 +1,7 @@
 // The clock record by `&mut`, and the session table as a lent slice: thin functions, each proved by a walk of its code.
 // Assumes nothing.
+#![tactic(auto)]
+
 mod clock;
 mod seats;
 mod sessions;
