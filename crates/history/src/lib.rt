@@ -1,5 +1,7 @@
 // What the log and the versions say at a stamp: the last change naming a row, the version of a value, query, span and read.
 // Assumes nothing.
+#![tactic(auto)]
+
 mod chain;
 mod changes;
 mod mask;

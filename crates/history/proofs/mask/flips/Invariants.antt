@@ -1,0 +1,15 @@
+-- `history::flips` meets its contract. The invariant: the mask is what the changes so far flip.
+use mathlib.Core.Path.{◌≡◌}
+use Prim.Native.Nat.{◌-◌, ◌≤◌}
+use native.Mathlib.Omega.{arith}
+use borrow.Author.Rules.{rules}
+use Rattle.bits.specs.Vec.{vec}
+use Rattle.history.specs.Flips.{flipped_in}
+use Rattle.history.proofs.LastLaws.{mask-none, mark-row, mask-more, mask-all}
+use Rattle.history.proofs.mask.flips.Given as goal
+
+abbrev pub invariant-loop-p : goal.invariant-loop-p
+invariant-loop-p l = (l.from ≤ l.p) × (l.p - l.to ≤ l.from - l.to) × (l.mask ≡ vec (flipped_in l.changes l.from l.p l.v.0) 32)
+
+abbrev pub decreases-loop-p : goal.decreases-loop-p
+decreases-loop-p l = l.to - l.p

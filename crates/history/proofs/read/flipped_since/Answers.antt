@@ -1,0 +1,7 @@
+-- `history::flipped_since` meets its contract.
+use borrow.Author.Rules.{rules}
+use Rattle.history.proofs.ReadLaws.{since-is}
+use Rattle.history.proofs.read.flipped_since.Goals as goal
+
+pub returns : goal.returns
+returns c = search since-is

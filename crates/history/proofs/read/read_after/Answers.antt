@@ -1,0 +1,24 @@
+-- `history::read_after` meets its contract. The invariant: no value so far has the row.
+use mathlib.Core.Path.{◌≡◌}
+use mathlib.Core.Option.{none}
+use Prim.Native.Nat.{◌-◌, ◌≤◌}
+use native.Mathlib.Omega.{arith}
+use borrow.Author.Rules.{rules}
+use Rattle.history.specs.Read.{read_after}
+use Rattle.history.proofs.ReadLaws.{read-start, value-based, read_here, read_past, read_none}
+use Rattle.history.proofs.read.read_after.Goals as goal
+
+pub loop-v-init : goal.loop-v-init
+loop-v-init c = (omega arith, search read-start)
+
+pub row_has-requires : goal.row_has-requires
+row_has-requires c = (search rules, search value-based)
+
+pub returns-then-row_has : goal.returns-then-row_has
+returns-then-row_has c = search read_here
+
+pub loop-v-preserved : goal.loop-v-preserved
+loop-v-preserved c = (omega arith, search read_past)
+
+pub returns : goal.returns
+returns c = search read_none

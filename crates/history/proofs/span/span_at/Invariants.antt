@@ -1,0 +1,16 @@
+-- `history::span_at` meets its contract. The invariant: the rows that the query of one of the values so far shows.
+use mathlib.Core.Path.{◌≡◌, sym}
+use Prim.Native.Nat.{◌+◌, ◌-◌, ◌≤◌}
+use native.Mathlib.Omega.{arith}
+use Rattle.bits.specs.Any.{any_from}
+use Rattle.bits.specs.Vec.{vec}
+use Rattle.history.specs.Query.{queried_at}
+use Rattle.history.proofs.SpanLaws.{value-ready, value-next, vec-long, values-none, values-more, values-all}
+use Rattle.history.proofs.span.span_at.Given as goal
+
+abbrev pub invariant-loop-v : goal.invariant-loop-v
+invariant-loop-v l = (l.initial.v ≤ l.v) × (l.v - (l.last.0 + 1) ≤ l.initial.v - (l.last.0 + 1))
+    × (l.all ≡ vec (λ r. any_from (λ u. queried_at l.slots l.words l.heads l.log l.changes l.s.0 u r) l.initial.v l.v) 32)
+
+abbrev pub decreases-loop-v : goal.decreases-loop-v
+decreases-loop-v l = l.last.0 + 1 - l.v
