@@ -1,5 +1,7 @@
 // Refusals 1 and 2: whether every table is lent with room, and whether the lent tables are not damaged. These run at every
 // call. The contracts are equalities with the definitions of tables/specs. Assumes nothing.
+#![tactic(auto)]
+
 mod clock;
 mod number_tables;
 mod rooms;

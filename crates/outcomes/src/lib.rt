@@ -1,5 +1,7 @@
 // What each call leaves in the lent tables and answers, as definitions; the answers, the refusals that the calls
 // share, and what stands in a session's list. Assumes nothing.
+#![tactic(auto)]
+
 mod answers;
 mod enter;
 mod lists;

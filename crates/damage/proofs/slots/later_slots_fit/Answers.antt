@@ -1,0 +1,21 @@
+-- `later_slots_fit` meets its contract: a scan; the whole is the rest from here on.
+use mathlib.Core.Path.{◌≡◌}
+use Prim.Native.Nat.{◌-◌}
+use native.Mathlib.Omega.{arith}
+use borrow.Author.Rules.{rules}
+use Rattle.tables.specs.Damage.{all_in, later_slot_fits}
+use Rattle.tables.proofs.Fold.{scan-begin, scan-again, scan-fails, scan-end}
+use Rattle.damage.proofs.SlotLaws.{later-slot}
+use Rattle.damage.proofs.slots.later_slots_fit.Goals as goal
+
+pub returns-then-not-fits-link_fits : goal.returns-then-not-fits-link_fits
+returns-then-not-fits-link_fits c = search (scan-fails, later-slot)
+
+pub loop-i-preserved : goal.loop-i-preserved
+loop-i-preserved c = search (scan-again, later-slot)
+
+pub loop-i-init : goal.loop-i-init
+loop-i-init c = search scan-begin
+
+pub returns : goal.returns
+returns c = search scan-end
