@@ -1,0 +1,18 @@
+-- `lists::inserts` meets its contract: the count is that of the first i entries.
+use mathlib.Core.Path.{◌≡◌}
+use mathlib.Core.Logic.{⊎_elim}
+use Prim.Native.Nat.{◌-◌, ◌≤◌}
+use native.Mathlib.Omega.{arith}
+use borrow.Author.Rules.{rules}
+use lib.ListN.{length}
+use Rattle.bits.specs.Tab.{tab}
+use Rattle.rules.specs.Lists.{inserts}
+use Rattle.tables.specs.Meaning.{entry_at}
+use Rattle.outcomes.proofs.ListLaws.{counted_none, counted-new, counted-row, counted-all}
+use Rattle.outcomes.proofs.lists.inserts.Given as goal
+
+abbrev pub invariant-loop-i : goal.invariant-loop-i
+invariant-loop-i l = (l.i ≤ l.n) × (l.k ≤ l.i) × (l.k ≡ length (inserts (tab (entry_at l.s) l.i)))
+
+abbrev pub decreases-loop-i : goal.decreases-loop-i
+decreases-loop-i l = l.n - l.i
