@@ -1,4 +1,6 @@
 // The core of commit. Assumes nothing.
+#![tactic(auto)]
+
 mod commit;
 mod writes;
 

@@ -1,4 +1,6 @@
 // The cores of begin, update, delete, insert and abort: what writes to a session alone. Assumes nothing.
+#![tactic(auto)]
+
 mod begin;
 mod change;
 

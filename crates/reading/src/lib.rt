@@ -1,4 +1,6 @@
 // The cores of query, span and read, and the picker. Assumes nothing.
+#![tactic(auto)]
+
 mod query;
 mod span;
 

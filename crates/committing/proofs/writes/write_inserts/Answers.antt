@@ -1,0 +1,28 @@
+-- `writes::write_inserts` meets its contract: the inserts among the first i entries are stored.
+use mathlib.Core.Path.{◌≡◌, refl}
+use mathlib.Core.Logic.{⊎_elim}
+use Prim.Native.Nat.{◌+◌, ◌-◌, ◌≤◌}
+use native.Mathlib.Omega.{arith}
+use borrow.Author.Rules.{rules}
+use lib.ListN.{length}
+use Rattle.committing.specs.Commit.{InsertsStored}
+use Rattle.committing.proofs.WriteLaws.{length-put}
+use Rattle.committing.proofs.WriteLaws.{inserts-start, insert-place, insert-row, inserts-more, inserts-skip, inserts-all}
+use Rattle.committing.proofs.writes.write_inserts.Goals as goal
+
+pub loop-i-preserved : goal.loop-i-preserved
+loop-i-preserved c =
+    ⊎_elim (λ w. (omega arith, search length-put, omega arith, search inserts-more))
+    (λ w. (omega arith, (cc), omega arith, search inserts-skip)) c.if-s-i.branch
+
+pub loop-i-init : goal.loop-i-init
+loop-i-init c = (omega arith, refl, omega arith, search inserts-start)
+
+pub write_insert-requires : goal.write_insert-requires
+write_insert-requires c = (omega arith, search insert-place, omega arith)
+
+pub next_row-row-requires : goal.next_row-row-requires
+next_row-row-requires c = search insert-row
+
+pub returns : goal.returns
+returns c = search inserts-all

@@ -1,0 +1,24 @@
+-- `writes::write_rows` meets its contract: the rows among the first i entries are stored.
+use mathlib.Core.Path.{◌≡◌, refl}
+use mathlib.Core.Logic.{⊎_elim}
+use Prim.Native.Nat.{◌+◌, ◌-◌, ◌≤◌}
+use native.Mathlib.Omega.{arith}
+use borrow.Author.Rules.{rules}
+use lib.ListN.{length}
+use Rattle.tables.specs.Cells.{values_in}
+use Rattle.committing.specs.Commit.{new_cells, RowsStored}
+use Rattle.committing.proofs.WriteLaws.{length-put, rows_start, row-ready, rows_more, rows-skip, rows_all}
+use Rattle.committing.proofs.writes.write_rows.Goals as goal
+
+pub loop-i-preserved : goal.loop-i-preserved
+loop-i-preserved c = ⊎_elim (λ w. (omega arith, search length-put, omega arith, search rows_more))
+    (λ w. (omega arith, (cc), omega arith, search rows-skip)) c.if-s-i.branch
+
+pub loop-i-init : goal.loop-i-init
+loop-i-init c = (omega arith, refl, omega arith, search rows_start)
+
+pub write_row-requires : goal.write_row-requires
+write_row-requires c = search row-ready
+
+pub returns : goal.returns
+returns c = search rows_all

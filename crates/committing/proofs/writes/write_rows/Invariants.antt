@@ -1,0 +1,18 @@
+-- `writes::write_rows` meets its contract: the rows among the first i entries are stored.
+use mathlib.Core.Path.{◌≡◌, refl}
+use mathlib.Core.Logic.{⊎_elim}
+use Prim.Native.Nat.{◌+◌, ◌-◌, ◌≤◌}
+use native.Mathlib.Omega.{arith}
+use borrow.Author.Rules.{rules}
+use lib.ListN.{length}
+use Rattle.tables.specs.Cells.{values_in}
+use Rattle.committing.specs.Commit.{new_cells, RowsStored}
+use Rattle.committing.proofs.WriteLaws.{length-put, rows_start, row-ready, rows_more, rows-skip, rows_all}
+use Rattle.committing.proofs.writes.write_rows.Given as goal
+
+abbrev pub invariant-loop-i : goal.invariant-loop-i
+invariant-loop-i l = (l.i ≤ l.n) × (length l.changes ≡ length l.initial.changes) × (l.p ≤ l.from + l.i) × RowsStored
+    (new_cells l.slots l.words l.heads l.log l.initial.changes (values_in l.clock) l.s.start.0) l.s l.from l.initial.changes l.changes l.i l.p
+
+abbrev pub decreases-loop-i : goal.decreases-loop-i
+decreases-loop-i l = l.n - l.i
