@@ -10,7 +10,7 @@ commit_work-answer-requires c =
       now-ready,
       c.requires,
       c.ready-go.ensures,
-      c.enum_told-1.given,
+      c.in-Passed.is,
     )
 
 pub ready-go-requires : goal.ready-go-requires

@@ -9,11 +9,14 @@ use Rattle.committing.specs.Commit.{InsertsStored}
 use Rattle.committing.proofs.WriteLaws.{length-put}
 use Rattle.committing.proofs.WriteLaws.{inserts-start, insert-place, insert-row, inserts-more, inserts-skip, inserts-all}
 use Rattle.committing.proofs.writes.write_inserts.Goals as goal
+use Rattle.committing.proofs.writes.write_inserts.Goals.{then-s-i, else-s-i}
 
 pub loop-i-preserved : goal.loop-i-preserved
 loop-i-preserved c =
-    ⊎_elim (λ w. (omega arith, search length-put, omega arith, search inserts-more))
-    (λ w. (omega arith, (cc), omega arith, search inserts-skip)) c.if-s-i.branch
+    elim c.if-s-i.branch [
+      then-s-i w ↦ (omega arith, search length-put, omega arith, search inserts-more)
+    | else-s-i w ↦ (omega arith, (cc), omega arith, search inserts-skip)
+    ]
 
 pub loop-i-init : goal.loop-i-init
 loop-i-init c = (omega arith, refl, omega arith, search inserts-start)

@@ -9,10 +9,14 @@ use Rattle.tables.specs.Cells.{values_in}
 use Rattle.committing.specs.Commit.{new_cells, RowsStored}
 use Rattle.committing.proofs.WriteLaws.{length-put, rows_start, row-ready, rows_more, rows-skip, rows_all}
 use Rattle.committing.proofs.writes.write_rows.Goals as goal
+use Rattle.committing.proofs.writes.write_rows.Goals.{then-s-i, else-s-i}
 
 pub loop-i-preserved : goal.loop-i-preserved
-loop-i-preserved c = ⊎_elim (λ w. (omega arith, search length-put, omega arith, search rows_more))
-    (λ w. (omega arith, (cc), omega arith, search rows-skip)) c.if-s-i.branch
+loop-i-preserved c =
+    elim c.if-s-i.branch [
+      then-s-i w ↦ (omega arith, search length-put, omega arith, search rows_more)
+    | else-s-i w ↦ (omega arith, (cc), omega arith, search rows-skip)
+    ]
 
 pub loop-i-init : goal.loop-i-init
 loop-i-init c = (omega arith, refl, omega arith, search rows_start)

@@ -14,7 +14,7 @@ pub returns-in-No : goal.returns-in-No
 returns-in-No c =
     let p = c in
     let q = p in
-    tidy-refused _ _ _ _ _ _ q.args.seat _ _ _ p.valued-test.ensures _ c.test-1.given.1
+    tidy-refused _ _ _ _ _ _ q.args.seat _ _ _ p.valued-test.ensures _ c.in-No.is
 
 pub returns-in-Passed : goal.returns-in-Passed
 returns-in-Passed c =
