@@ -1,4 +1,2 @@
--- The walks of the outer calls.
-pub mod Answers
-pub mod Calls
+-- That no second outcome meets the contract of a call.
 pub mod Once

@@ -1,4 +1,6 @@
 // The index: its calls over lent tables, and the picker of a query's words. Assumes nothing.
+#![tactic(auto)]
+
 mod cores;
 mod outer;
 
