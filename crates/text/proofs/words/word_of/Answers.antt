@@ -25,4 +25,4 @@ returns-then-is-5 c = search (here, past) depth 30
 
 pub returns : goal.returns
 unfolding word_of
-returns c = search (here, past) depth 30
+returns c = search past depth 30
