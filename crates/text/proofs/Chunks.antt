@@ -52,13 +52,13 @@ module _ (p : List ℕ) (b : ℕ) (l f : List ℕ) (fs : List (List ℕ)) (s : s
       → cut p (b ∷ l) ≡ all_but_last (front p (split newline (b ∷ l)))
   unfolding cut split before front all_but_last
   cut-split-more true e h k = rw (e, h, s, append-nil p)
-  cut-split-more false e h k = rw (e, k, s, append_assoc)
+  cut-split-more false e h k = rw (e, k, s) (ap (λ x. all_but_last (x ∷ fs)) (append_assoc p (b ∷ []) f))
 
   pend-split-more : (t : Bool) → eqb b newline ≡ t → pend [] l ≡ last_of (front [] (split newline l))
       → pend (p ++ b ∷ []) l ≡ last_of (front (p ++ b ∷ []) (split newline l)) → pend p (b ∷ l) ≡ last_of (front p (split newline (b ∷ l)))
   unfolding pend split before front last_of
   pend-split-more true e h k = rw (e, h, s)
-  pend-split-more false e h k = rw (e, k, s, append_assoc)
+  pend-split-more false e h k = rw (e, k, s) (ap (λ x. last_of (x ∷ fs)) (append_assoc p (b ∷ []) f))
 
 cut-split : (p l : List ℕ) → cut p l ≡ all_but_last (front p (split newline l))
 unfolding cut split front all_but_last

@@ -1,4 +1,6 @@
 // An answer written as bytes. The functions are on slices alone, and require no more than room. Assumes nothing.
+#![tactic(auto)]
+
 mod digits;
 mod pairs;
 mod replies;

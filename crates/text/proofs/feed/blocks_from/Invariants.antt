@@ -1,0 +1,11 @@
+-- `text::feed::blocks_from` meets its contract.
+use Rattle.std.proofs.Common.{◌≡◌, ◌-◌, ◌≤◌, length}
+use Rattle.fields.specs.Split.{newline}
+use Rattle.fields.specs.Places.{end_at}
+use Rattle.text.proofs.feed.blocks_from.Given as goal
+
+abbrev pub invariant-loop-i : goal.invariant-loop-i
+invariant-loop-i l = (l.i ≤ length l.bytes) × (end_at newline l.bytes l.from ≡ end_at newline l.bytes l.i)
+
+abbrev pub decreases-loop-i : goal.decreases-loop-i
+decreases-loop-i l = length l.bytes - l.i

@@ -1,0 +1,24 @@
+-- `text::requests::three_request` meets its contract.
+use Rattle.text.proofs.RequestLaws.{next-within, number-stuck, number-next, numbers-over, numbers-all}
+use Rattle.text.proofs.requests.three_request.Goals as goal
+
+pub returns-then-first-gt9999 : goal.returns-then-first-gt9999
+returns-then-first-gt9999 c = search number-stuck
+
+pub number_at-second-requires : goal.number_at-second-requires
+number_at-second-requires c = search next-within
+
+pub returns-then-second-gt9999 : goal.returns-then-second-gt9999
+returns-then-second-gt9999 c = search (number-next, number-stuck)
+
+pub number_at-third-requires : goal.number_at-third-requires
+number_at-third-requires c = next-within _ _ _ c.number_at-second.ensures c.if-second-gt9999.false
+
+pub returns-then-third-gt9999 : goal.returns-then-third-gt9999
+returns-then-third-gt9999 c = search (number-next, number-stuck)
+
+pub returns-then-third-line : goal.returns-then-third-line
+returns-then-third-line c = search (number-next, numbers-over)
+
+pub returns : goal.returns
+returns c = search (number-next, numbers-all)

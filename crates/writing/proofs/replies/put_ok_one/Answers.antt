@@ -1,0 +1,7 @@
+-- `replies::put_ok_one` meets its contract.
+use borrow.Author.Rules.{rules}
+use Rattle.writing.proofs.WroteLaws.{ok-more}
+use Rattle.writing.proofs.replies.put_ok_one.Goals as goal
+
+pub returns : goal.returns
+returns c = search (ok-more, rules)

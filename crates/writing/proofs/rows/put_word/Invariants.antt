@@ -1,0 +1,11 @@
+-- `rows::put_word` meets its contract: what is written of the rows, and what is still to come, is the whole.
+use lib.ListN.{length}
+use Rattle.bits.specs.Rows.{word_rows}
+use Rattle.writing.proofs.RowLaws.{Rowing}
+use Rattle.writing.proofs.rows.put_word.Given as goal
+
+abbrev pub invariant-loop-x : goal.invariant-loop-x
+invariant-loop-x l = Rowing l.initial.out l.out l.start l.at l.word l.base l.x
+
+abbrev pub decreases-loop-x : goal.decreases-loop-x
+decreases-loop-x l = length (word_rows l.x l.base)
