@@ -1,6 +1,2 @@
--- The walk of the doors, what it needs of arrays, and what a call leaves of the sessions.
+-- What the ten calls leave of the session table.
 pub mod OneSeat
-pub mod Arrays
-pub mod Doors
-pub mod Walk
-pub mod Calls

@@ -1,6 +1,8 @@
 // The ten calls of the step program, which holds its session table by value: each lends the table to the call of `index`, and
 // hands back with the answer the one session that the call may have changed; create, which may free all sixteen, hands back none.
 // Assumes nothing.
+#![tactic(auto)]
+
 ghost use Rattle.std.specs.Prelude.{◌≡◌, [], ◌∷◌};
 ghost use Rattle.tables.specs.Cells.{tables};
 ghost use Rattle.lent.specs.Places.{put_at, all_freed};
