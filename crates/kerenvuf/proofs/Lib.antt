@@ -1,4 +1,4 @@
--- The laws and the walks of the exports.
+-- The laws of the exports.
 pub mod AnswerLaws
 pub mod HeardLaws
 pub mod PickedLaws

@@ -1,4 +1,6 @@
 // The index as C calls it: its calls over lent tables, and the words that a query picked. Assumes nothing.
+#![tactic(auto)]
+
 mod exports;
 mod in_numbers;
 mod picked;

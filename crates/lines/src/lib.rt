@@ -1,4 +1,6 @@
 // A line of the step program: what it asks for is done, and its answer written. Assumes nothing.
+#![tactic(auto)]
+
 mod one_line;
 mod printing;
 mod sessions;

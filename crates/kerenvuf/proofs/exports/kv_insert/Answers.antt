@@ -1,0 +1,6 @@
+-- What the call of the index says, and its answer in numbers.
+use Rattle.kerenvuf.proofs.Exported.{encodes}
+use Rattle.kerenvuf.proofs.exports.kv_insert.Goals as goal
+
+pub returns : goal.returns
+returns c = encodes _ _ _ _ _ c.insert-answer.ensures c.numbers.ensures

@@ -1,0 +1,22 @@
+-- `printing::put_answer` meets its contract.
+use borrow.Author.Rules.{rules}
+use Rattle.lines.proofs.AnswerLaws.{queried-few, queried-fits, put_refused, put_count, put-at, put-read, put-listed}
+use Rattle.lines.proofs.printing.put_answer.Goals as goal
+
+pub put_queried-requires : goal.put_queried-requires
+put_queried-requires c = (search queried-few, search queried-fits)
+
+pub returns-in-No : goal.returns-in-No
+returns-in-No c = search put_refused
+
+pub returns-in-Count : goal.returns-in-Count
+returns-in-Count c = search put_count
+
+pub returns-in-At : goal.returns-in-At
+returns-in-At c = search put-at
+
+pub returns-in-Read : goal.returns-in-Read
+returns-in-Read c = search put-read
+
+pub returns-in-Listed : goal.returns-in-Listed
+returns-in-Listed c = search put-listed

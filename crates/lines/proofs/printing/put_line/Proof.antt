@@ -1,8 +1,0 @@
--- `printing::put_line` meets its contract.
-use borrow.Author.Rules.{rules}
-use Rattle.lines.proofs.AnswerLaws.{put-answered}
-use Rattle.lines.proofs.printing.put_line.Statement.{statement}
-use Rattle.lines.proofs.printing.put_line.Tie as tie
-
-pub put-line-spec : {M : Type 1} → statement M
-put-line-spec = tie.close (tie.spec (λ c κs. search rules) (λ c κs. search rules) (λ c. search rules) (λ c. search put-answered))
