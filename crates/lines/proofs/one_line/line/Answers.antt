@@ -4,25 +4,15 @@ use borrow.Author.Rules.{rules}
 use Rattle.lines.proofs.LineLaws.{nothing-column, nothing-out, line-done}
 use Rattle.lines.proofs.one_line.line.Goals as goal
 
-pub put_line-len-requires : goal.put_line-len-requires
-put_line-len-requires c =
-    let t = c in
-    let w = t in
-    omega (arith, w.if-out-lt10276.left)
-
 pub returns : goal.returns
 returns c =
-    let p = c.put_line-len.ensures in
-    let t = c in
-    let w = t in
-    let tests = w in (
-      line-done _ _ _ _ _ _ _ _ _ _ _ _ (omega (arith, tests.if-column-lt4096.left)) (omega (arith, tests.if-out-lt10276.left)) w.request-wish.ensures
-          t.turn-d.ensures.0 p,
-      (p.short, t.turn-d.ensures.1),
-    )
+    let p = c.put_line-len.ensures in record {
+      len_after = line-done _ _ _ _ _ _ _ _ _ _ _ _ (omega arith) (omega arith) c.request-wish.ensures c.turn-d.ensures.turned p;
+      len_bound = (p.short, c.turn-d.ensures.place_bound);
+    }
 
 pub returns-then-column-lt4096 : goal.returns-then-column-lt4096
-returns-then-column-lt4096 c = (search nothing-column, search rules)
+returns-then-column-lt4096 c = record { len_after = search nothing-column; len_bound = search rules }
 
 pub returns-then-out-lt10276 : goal.returns-then-out-lt10276
-returns-then-out-lt10276 c = (search nothing-out, search rules)
+returns-then-out-lt10276 c = record { len_after = search nothing-out; len_bound = search rules }
