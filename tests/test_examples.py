@@ -174,19 +174,19 @@ class Proving(unittest.TestCase):
     """examples/prove in a small project, over a stand-in for rt that notes what it is asked."""
 
     RT = """#!/bin/sh
-echo "$*" >>calls
-mkdir -p target/log target/bin target/staticlib
-: >"target/log/$2.out"
-if [ -e "broken-$2" ]; then echo "line 7: it is broken"; exit 1; fi
-case $2 in steps) : >target/bin/steps ;; kerenvuf) : >target/staticlib/libkerenvuf.a ;; esac
-echo "rt: $2 proved (0 s)"
+crate=${PWD##*/}
+echo "$1 $crate" >>../../calls
+if [ -e "../../broken-$crate" ]; then echo "line 7: it is broken"; exit 1; fi
+mkdir -p out
+case $crate in steps) : >out/steps ;; kerenvuf) : >out/libkerenvuf.a ;; esac
+echo "crate $crate: modules loaded=0 checked=1"
 """
 
     def setUp(self):
         """A project of six crates, of which the program needs four."""
         self.folder = tempfile.mkdtemp()
         self.addCleanup(shutil.rmtree, self.folder)
-        self.write("crates.txt", "# bottom up\nbits:\nrules: bits\ntext: check bits\nindex: rules\nsteps: rules text io\nkerenvuf: index\n")
+        self.write("crates.txt", "# bottom up\nbits:\nrules: bits\ntext: check bits\nindex: rules\nsteps: rules text io\nkerenvuf staticlib: index\n")
         for crate in ("bits", "rules", "text", "index", "steps", "kerenvuf"):
             self.write(f"crates/{crate}/src/lib.rt", "")
         self.write("bin/rt", self.RT)
@@ -213,15 +213,15 @@ echo "rt: $2 proved (0 s)"
     def test_what_it_stands_on(self):
         """The crates that are needed, each after those it needs; then none, until a source changes."""
         run, calls = self.prove()
-        self.assertEqual((run.returncode, sorted(calls)), (0, ["check bits", "check rules", "check steps", "check text"]))
-        self.assertEqual((calls[0], calls[-1]), ("check bits", "check steps"))
+        self.assertEqual((run.returncode, sorted(calls)), (0, ["check bits", "check rules", "check text", "run steps"]))
+        self.assertEqual((calls[0], calls[-1]), ("check bits", "run steps"))
         self.assertIn("proved crate 4 of 4: steps", run.stderr)
         self.assertEqual(self.prove()[1], [])
         later = self.write("crates/text/src/lib.rt", "fn more() {}")
         os.utime(later, (time.time() + 5, time.time() + 5))
         self.assertEqual(len(self.prove()[1]), 4)
         _, calls = self.prove("kerenvuf")
-        self.assertEqual(calls, ["check bits", "check rules", "check index", "staticlib kerenvuf"])
+        self.assertEqual(calls, ["check bits", "check rules", "check index", "lib kerenvuf"])
 
     def test_removed(self):
         """What is built is built anew where it was removed, and where a source was."""
@@ -239,7 +239,7 @@ echo "rt: $2 proved (0 s)"
         self.assertEqual(run.returncode, 1)
         self.assertIn("line 7: it is broken", run.stderr)
         self.assertIn("examples/prove: rules is not proved", run.stderr)
-        self.assertNotIn("check steps", calls)
+        self.assertNotIn("run steps", calls)
         os.unlink(os.path.join(self.folder, "broken-rules"))
         self.assertEqual(self.prove()[0].returncode, 0)
 
