@@ -24,12 +24,12 @@ kept-none w = record { same = (refl, refl, refl, refl, refl, refl, refl, refl, r
 -- a call keeps the lengths of the first eight
 pub kept_more : {clock₀ slots₀ words₀ heads₀ log₀ changes₀ scratch₀ column₀ pending₀ out₀
     clock slots words heads log changes scratch column pending out
-    clock' slots' words' heads' log' changes' scratch' column' pending' out' : List ℕ} {R : Type 0}
+    clock' slots' words' heads' log' changes' scratch' column' pending' out' : List ℕ}
     → Kept clock₀ slots₀ words₀ heads₀ log₀ changes₀ scratch₀ column₀ pending₀ out₀
     clock slots words heads log changes scratch column pending out
-    → (length clock' ≡ length clock) × ((length slots' ≡ length slots) × ((length words' ≡ length words) × ((length heads' ≡
-    length heads) × ((length log' ≡ length log) × ((length changes' ≡ length changes) × ((length scratch' ≡ length scratch) ×
-    ((length column' ≡ length column) × R)))))))
+    → (length clock' ≡ length clock) × (length slots' ≡ length slots) × (length words' ≡ length words) ×
+    (length heads' ≡ length heads) × (length log' ≡ length log) × (length changes' ≡ length changes) ×
+    (length scratch' ≡ length scratch) × (length column' ≡ length column)
     → length pending' ≡ length pending₀ → length out' ≡ length out₀
     → Kept clock₀ slots₀ words₀ heads₀ log₀ changes₀ scratch₀ column₀ pending₀ out₀
     clock' slots' words' heads' log' changes' scratch' column' pending' out'
@@ -37,15 +37,15 @@ kept_more g k p o =
     record {
       same = (
         k.0 ∙ g.same.0,
-        k.1.0 ∙ g.same.1,
-        k.1.1.0 ∙ g.same.2,
-        k.1.1.1.0 ∙ g.same.3,
-        k.1.1.1.1.0 ∙ g.same.4,
-        k.1.1.1.1.1.0 ∙ g.same.5,
-        k.1.1.1.1.1.1.0 ∙ g.same.6,
-        k.1.1.1.1.1.1.1.0 ∙ g.same.7,
+        k.1 ∙ g.same.1,
+        k.2 ∙ g.same.2,
+        k.3 ∙ g.same.3,
+        k.4 ∙ g.same.4,
+        k.5 ∙ g.same.5,
+        k.6 ∙ g.same.6,
+        k.7 ∙ g.same.7,
         p,
         o,
       );
-      wide = omega (arith, g.wide, k.1.1.1.1.1.1.1.0);
+      wide = omega (arith, g.wide, k.7);
     }

@@ -1,4 +1,6 @@
 // The step program: lines from standard input, an answer to each on standard output. Assumes nothing.
+#![tactic(auto)]
+
 mod chunk;
 
 ghost use Rattle.std.specs.Prelude.{◌≡◌, true, false, ◌&&◌, ◌<◌, ◌≤◌, ltb, length, replicate};
@@ -11,6 +13,7 @@ ghost use Rattle.steps.specs.Program.{Through, Read, Ends, Blank, Program};
 use chunk::State;
 use ends::{Told, Watch, Writer};
 use lines::Sessions;
+use std::io::{Stderr, Stdin, Stdout};
 
 // What stands between two reads: how many bytes are pending of the next line, the sessions, whether the input goes on, whether no read and
 // no write has failed, and the watches on the bytes read and on those written.
@@ -56,6 +59,8 @@ fn goes_on(well: bool, at: usize, n: usize) -> bool
 
 // The lines of a chunk are answered, and the answers written; after a write that failed, no line more.
 fn whole(
+    stdout: Stdout,
+    stderr: Stderr,
     clock: &mut [u32],
     slots: &mut [u32],
     words: &mut [u64],
@@ -97,7 +102,7 @@ fn whole(
         let after = chunk::answer(
             clock, slots, words, heads, log, changes, scratch, column, pending, out, bytes, state,
         );
-        let wrote = ends::write(out, after.filled, writer);
+        let wrote = ends::write(stdout, stderr, out, after.filled, writer);
         writer = wrote;
         state = after;
         state.filled = 0;
@@ -117,6 +122,9 @@ fn whole(
 
 // A read, and what it gave answered. Where it gave nothing the input ends, and where it failed all ends.
 fn turn(
+    stdin: Stdin,
+    stdout: Stdout,
+    stderr: Stderr,
     clock: &mut [u32],
     slots: &mut [u32],
     words: &mut [u64],
@@ -144,7 +152,7 @@ fn turn(
 {
     let heard = before.heard;
     let mut stand = before;
-    let got = ends::read(input, heard);
+    let got = ends::read(stdin, stderr, input, heard);
     let n = got.n;
     let next = got.watch;
     stand.heard = next;
@@ -154,6 +162,8 @@ fn turn(
         return stand;
     }
     whole(
+        stdout,
+        stderr,
         clock,
         slots,
         words,
@@ -171,6 +181,9 @@ fn turn(
 
 // Reads and answers until the input ends, or something fails. After 9,223,372,036,854,775,807 reads it has failed too.
 fn run(
+    stdin: Stdin,
+    stdout: Stdout,
+    stderr: Stderr,
     clock: &mut [u32],
     slots: &mut [u32],
     words: &mut [u64],
@@ -200,7 +213,8 @@ fn run(
     let mut more = true;
     while more {
         let after = turn(
-            clock, slots, words, heads, log, changes, scratch, column, pending, out, input, stand,
+            stdin, stdout, stderr, clock, slots, words, heads, log, changes, scratch, column,
+            pending, out, input, stand,
         );
         stand = after;
         turns = turns - 1;
@@ -212,6 +226,8 @@ fn run(
 
 // At the end of the input a last line without a newline is answered; where something has failed, nothing more is done.
 fn finish(
+    stdout: Stdout,
+    stderr: Stderr,
     clock: &mut [u32],
     slots: &mut [u32],
     words: &mut [u64],
@@ -237,12 +253,16 @@ fn finish(
         return before;
     }
     whole(
-        clock, slots, words, heads, log, changes, scratch, column, pending, out, b"\n", before,
+        stdout, stderr, clock, slots, words, heads, log, changes, scratch, column, pending, out,
+        b"\n", before,
     )
 }
 
 // The program on lent tables, all zeros, and buffers, with a watch on a byte of its input and one on a byte of its output.
 fn program(
+    stdin: Stdin,
+    stdout: Stdout,
+    stderr: Stderr,
     clock: &mut [u32],
     slots: &mut [u32],
     words: &mut [u64],
@@ -265,15 +285,24 @@ fn program(
 {
     let stand = started(heard_at, told_at);
     let after = run(
-        clock, slots, words, heads, log, changes, scratch, column, pending, out, input, stand,
+        stdin, stdout, stderr, clock, slots, words, heads, log, changes, scratch, column, pending,
+        out, input, stand,
     );
     finish(
-        clock, slots, words, heads, log, changes, scratch, column, pending, out, after,
+        stdout, stderr, clock, slots, words, heads, log, changes, scratch, column, pending, out,
+        after,
     )
 }
 
+// 65,536 zeros: what a read fills, and what answers are gathered in before they are written.
+fn large_buffer() -> [u8; 65536]
+    ensures { 65536 ≡ length result }
+{
+    [0; 65536]
+}
+
 // The program starts from zeros. Which bytes are watched is all the same.
-fn main() {
+fn main(rt: HostRuntime) {
     let mut clock = [0u32; 6];
     let mut slots = [0u32; 288];
     let mut words = [0u64; 3072];
@@ -283,9 +312,12 @@ fn main() {
     let mut scratch = [0u64; 32];
     let mut column = [0u8; 4096];
     let mut pending = [0u8; 8193];
-    let mut out = io::large_buffer();
-    let mut input = io::large_buffer();
+    let mut out = large_buffer();
+    let mut input = large_buffer();
     program(
+        rt.stdin(),
+        rt.stdout(),
+        rt.stderr(),
         &mut clock,
         &mut slots,
         &mut words,
