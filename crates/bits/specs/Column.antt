@@ -1,5 +1,5 @@
 -- A column of bytes: the rows that hold a value, and the value that a byte stands for.
-use Rattle.std.specs.Prelude.{◌≡◌, refl, Bool, cond, ◌&&◌, ◌||◌, List, ℕ, ◌+◌, ◌-◌, ◌*◌, ◌/◌, ◌%◌, ◌≤◌, ◌<◌, eqb, ltb, length, get_or}
+use Rattle.std.specs.Prelude.{◌≡◌, refl, Bool, cond, ◌&&◌, ◌||◌, List, ℕ, ◌+◌, ◌*◌, ◌/◌, ◌%◌, ◌≤◌, ◌<◌, eqb, ltb, length, get_or}
 use Rattle.std.proofs.Common.{ap, ne_eqb}
 use Rattle.std.proofs.Math.Option.{Option, none, some}
 use Rattle.bits.specs.Words.{bit_at}

@@ -1,5 +1,5 @@
 -- The list of a function's values, and a list stored over the front of another.
-use Rattle.std.specs.Prelude.{List, [], ◌∷◌, ◌++◌, ℕ, zero, suc, ◌+◌, length, drop}
+use Rattle.std.specs.Prelude.{List, [], ◌∷◌, ◌++◌, ℕ, zero, suc, length, drop}
 
 -- l stored in d from the front
 abbrev pub over : List ℕ → List ℕ → List ℕ

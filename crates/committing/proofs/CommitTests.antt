@@ -12,7 +12,7 @@ use mir.Syntax.{w32}
 use mir.Val.{Fits}
 use Rattle.bits.specs.Tab.{tab}
 use Rattle.rules.specs.Limits.{max_sessions, max_rows, max_records, max_changes}
-use Rattle.rules.specs.State.{Log, Session}
+use Rattle.rules.specs.State.{Log}
 use Rattle.rules.specs.Log.{above, changes_of}
 use Rattle.rules.specs.Lists.{inserts}
 use Rattle.rules.specs.Commit.{conflicts}

@@ -42,7 +42,7 @@ use Rattle.tables.proofs.Slots.{slots-made, heads-made, vectors-made}
 use Rattle.tables.proofs.Sessions.{sessions-made, session-made, freed-zero}
 use Rattle.tables.proofs.Chains.{chain-end}
 use Rattle.tables.proofs.Stores.{freed-means}
-use Rattle.lent.specs.Places.{length-freed-all, freed-all-at}
+use Rattle.lent.proofs.PlaceTheorems.{length-freed-all, freed-all-at}
 use Rattle.outcomes.specs.Said.{numbers}
 use Rattle.outcomes.specs.Outcome.{Outcome, outcome, refusal_of_create, unless}
 use Rattle.outcomes.specs.Calls.{below, created_tables, column_of, create_of}

@@ -26,7 +26,7 @@ use Rattle.rules.proofs.Small.{or_parts}
 use Rattle.tables.specs.Cells.{change_row, change_set}
 use Rattle.tables.specs.Meaning.{change_at}
 use Rattle.tables.specs.Stretch.{stretch}
-use Rattle.tables.proofs.Stretch.{stretch-none, stretch-step, stretch-more}
+use Rattle.tables.proofs.Stretch.{stretch-none, stretch-step, stretch-more, stretch-join}
 use Rattle.history.specs.declared.changes.Last.{Last}
 use Rattle.history.specs.Last.{last_place, last_set, last_of}
 use Rattle.history.specs.Flips.{flipped_in, marked, RowsLow}
@@ -41,13 +41,19 @@ module _ (changes : List ℕ) (row : ℕ) where
 
   -- ---- whether a stretch names the row
 
+  names-none : (a b : ℕ) → b ≤ a → false ≡ in_cut a b
+  names-none a b h = rw (stretch-none (change_at changes) a b h)
+
   pub names-start : (a : ℕ) → false ≡ in_cut a a
-  names-start a = rw (stretch-none (change_at changes) a a (omega arith))
+  names-start a = names-none a a (omega arith)
 
   pub names_more : (a b : ℕ) → a ≤ b → in_cut a (b + 1) ≡ in_cut a b || eqb (change_row changes b) row
   names_more a b h =
       let x = change_at changes b in
       rw (stretch-more (change_at changes) a b h, names-append (cut a b) (x ∷ []) row, or-false (eqb (change_row changes b) row))
+
+  names-join : (a b c : ℕ) → a ≤ b → b ≤ c → in_cut a c ≡ in_cut a b || in_cut b c
+  names-join a b c h l = rw (← (stretch-join (change_at changes) a b c h l)) (names-append (cut a b) (cut b c) row)
 
   -- what a fold over a stretch meets
   pub names-fold : (a b : ℕ) (f : Bool) → a ≤ b → f ≡ in_cut a b → f || eqb (change_row changes b) row ≡ in_cut a (b + 1)
@@ -55,6 +61,20 @@ module _ (changes : List ℕ) (row : ℕ) where
 
   pub names-all : (a b e : ℕ) (f : Bool) → f ≡ in_cut a b → b ≤ e → e ≤ b → f ≡ in_cut a e
   names-all a b e f q h l = let z : b ≡ e = omega arith in q ∙ ap (in_cut a) z
+
+  -- what the search for a change that names the row meets
+  module _ (from to p : ℕ) (e : false ≡ in_cut from p) (h : from ≤ p) where
+    pub named_here : p < to → change_row changes p ≡ row → true ≡ in_cut from to
+    named_here l q =
+        rw (names-join from (p + 1) to (omega arith) (omega arith), names_more from p h, ← e, eq-eqb (change_row changes p) row q)
+
+    pub named_past : (change_row changes p ≡ row → ⊥) → false ≡ in_cut from (p + 1)
+    named_past n = rw (names_more from p h, ← e, ne_eqb (change_row changes p) row n)
+
+    pub named_none : to ≤ p → false ≡ in_cut from to
+    named_none l =
+        ⊎_elim (λ (k : from < to). sym (or_parts (in_cut from to) (in_cut to p) (sym (names-join from to p (omega arith) l) ∙ sym e)).0)
+        (names-none from to) (lt-cases from to)
 
   -- ---- the place of the last one
 

@@ -73,3 +73,18 @@ pub fn last_naming(changes: &[u32], to: usize, row: Row) -> Last
         set: tables::change_set(changes, at - 1),
     }
 }
+
+// Whether one of the changes from `from` to `to` names the row.
+pub fn named(changes: &[u32], from: usize, to: usize, row: Row) -> bool
+    requires { (to ≤ 2048) × (4096 ≤ length changes.now) }
+    ensures { result ≡ names (stretch (change_at changes.now) from to) row.0 }
+{
+    let mut p = from;
+    while p < to {
+        if changes[p] == row.0 {
+            return true;
+        }
+        p += 1;
+    }
+    false
+}

@@ -11,7 +11,7 @@ mod span;
 mod vector;
 
 pub use chain::{Base, base_of, version, version_of};
-pub use changes::{Last, last_naming};
+pub use changes::{Last, last_naming, named};
 pub use mask::flips;
 pub use query::{Found, query_at};
 pub use read::{Standing, read_after, read_at};

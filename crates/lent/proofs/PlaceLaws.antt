@@ -1,5 +1,5 @@
 -- A place of the lent slice by a test of its number, and the loops over the sixteen places.
-use Rattle.std.proofs.Common.{◌≡◌, refl, sym, ◌∙◌, ap, ap₂, subst, ℕ, ◌+◌, ◌-◌, ◌≤◌, ◌<◌, Bool, true, false, not, ◌&&◌, cond, T, ltb, leb, List, length, get_or, set, arith, ltb-true}
+use Rattle.std.proofs.Common.{◌≡◌, refl, sym, ◌∙◌, ap, ap₂, subst, ℕ, ◌+◌, ◌≤◌, ◌<◌, Bool, true, false, not, ◌&&◌, cond, T, ltb, leb, List, length, get_or, set, arith}
 use Rattle.std.proofs.Math.Bool.{and_assoc, and-true}
 use Rattle.std.proofs.Math.Facts.{and_yes}
 use Rattle.std.proofs.Common.{ltb→lt}
@@ -10,7 +10,8 @@ use Rattle.tables.specs.declared.session.Session.{Session}
 use Rattle.tables.specs.declared.clock.Clock.{Clock}
 use Rattle.tables.specs.Sessions.{freed, session_at}
 use Rattle.session_damage.specs.Judged.{session_judged}
-use Rattle.lent.specs.Places.{seat_at, put_at, listed_back, seat-there, seat-nowhere, put-there, put-nowhere, put-meant}
+use Rattle.lent.specs.Places.{seat_at, put_at, listed_back}
+use Rattle.lent.proofs.PlaceTheorems.{seat-there, seat-nowhere, put-there, put-nowhere, put-meant}
 use Rattle.lent.specs.Seats.{all_fit}
 
 holds : (b : Bool) → b ≡ true → T b

@@ -13,7 +13,7 @@ pub fn advance(c: &mut Clock, rows: Row)
     *c = next;
 }
 
-// A clock by value, moved in place: whoever calls it needs no walk.
+// A clock by value, moved in place.
 pub fn ticked(c: Clock, rows: Row) -> Clock
     requires { c.stamp.0 < 4294967295 }
     ensures { result ≡ later c rows }

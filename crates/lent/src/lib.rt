@@ -1,4 +1,4 @@
-// The clock record by `&mut`, and the session table as a lent slice: thin functions, each proved by a walk of its code.
+// The clock record by `&mut`, and the session table as a lent slice: thin functions.
 // Assumes nothing.
 #![tactic(auto)]
 

@@ -9,7 +9,7 @@ use borrow.Author.Tests.{le-leb, lt-leb}
 use lib.Dec.{leb}
 use mir.Syntax.{w8}
 use mir.Val.{Fits}
-use Rattle.rules.specs.State.{Session, session, rows_of}
+use Rattle.rules.specs.State.{session, rows_of}
 use Rattle.rules.specs.Lists.{target, standing}
 use Rattle.rules.specs.Calls.{update, delete, insert}
 use Rattle.rules.specs.Refusals.{Test, tests, no_row, row_absent, list_full_for, list_full, standing_in}

@@ -1,5 +1,5 @@
 -- Tidy: the rows it moves, when it is stale, and the changes of its record.
-use Rattle.std.specs.Prelude.{Bool, true, false, ◌||◌, List, map, ℕ, ltb}
+use Rattle.std.specs.Prelude.{Bool, ◌||◌, List, map, ℕ, ltb}
 use Rattle.bits.specs.Bit.{bit, clear_bit}
 use Rattle.bits.specs.Rows.{rows_below}
 use Rattle.rules.specs.Limits.{max_rows}

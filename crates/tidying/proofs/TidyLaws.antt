@@ -1,5 +1,5 @@
 -- A tidy as a whole: its record and clock, all tables after it, and what the call comes to.
-use mathlib.Core.Path.{◌≡◌, refl, sym, ap, ap₂, ◌∙◌, subst}
+use mathlib.Core.Path.{◌≡◌, refl, sym, ap, ap₂, ◌∙◌}
 use mathlib.Core.Option.{Option, none, some}
 use mathlib.Core.List.{List, [], ◌∷◌}
 use Prim.Native.Nat.{ℕ, ◌+◌, ◌-◌, ◌≤◌, ◌<◌}
@@ -11,7 +11,7 @@ use Rattle.bits.specs.Vec.{vec}
 use Rattle.rules.specs.State.{session}
 use Rattle.rules.specs.Tidy.{moved}
 use Rattle.rules.specs.Calls.{tidy}
-use Rattle.rules.specs.Refusals.{Test, first_of, tests}
+use Rattle.rules.specs.Refusals.{first_of, tests}
 use Rattle.rules.proofs.Tests.{all-fail}
 use Rattle.tables.specs.declared.clock.Clock.{Clock}
 use Rattle.tables.specs.declared.session.Session.{Session}

@@ -1,10 +1,7 @@
 -- `alike_by` meets its contract: a search; the record that it stands at has the row count of the first.
-use mathlib.Core.Path.{◌≡◌, refl}
+use mathlib.Core.Path.{◌≡◌}
 use Prim.Native.Nat.{◌-◌, ◌≤◌, ◌<◌}
-use native.Mathlib.Omega.{arith}
-use borrow.Author.Rules.{rules}
 use Rattle.tables.specs.Cells.{record_rows}
-use Rattle.change_damage.proofs.ChangeLaws.{alike-made, alike_next}
 use Rattle.change_damage.proofs.alike_by.Given as goal
 
 abbrev pub invariant-loop-e : goal.invariant-loop-e

@@ -1,6 +1,5 @@
 -- `changes_fit` meets its contract: all sets at once, and the rows of each record.
 use native.Mathlib.Omega.{arith}
-use borrow.Author.Rules.{rules}
 use Rattle.tables.proofs.ClockLaws.{low-records, low-sets}
 use Rattle.change_damage.proofs.ChangeLaws.{rising, bad-sets, each_rows}
 use Rattle.change_damage.proofs.changes_fit.Goals as goal

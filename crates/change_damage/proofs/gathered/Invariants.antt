@@ -1,9 +1,8 @@
 -- `gathered` meets its contract: a fold over the halves.
 use mathlib.Core.Path.{◌≡◌}
 use Prim.Native.Nat.{◌+◌, ◌-◌, ◌/◌, ◌≤◌}
-use native.Mathlib.Omega.{arith}
 use Rattle.bits.specs.OrWords.{or_below}
-use Rattle.change_damage.proofs.GatherLaws.{pair_at, pairs-none, pairs-more, all-gathered}
+use Rattle.change_damage.proofs.GatherLaws.{pair_at}
 use Rattle.change_damage.proofs.gathered.Given as goal
 
 abbrev pub invariant-loop-p : goal.invariant-loop-p

@@ -1,11 +1,9 @@
 -- `rows_below_each` meets its contract: a fold; the whole is what was found so far and the rest.
-use mathlib.Core.Path.{◌≡◌, refl}
+use mathlib.Core.Path.{◌≡◌}
 use mathlib.Core.Bool.{◌&&◌}
 use Prim.Native.Nat.{◌-◌}
-use native.Mathlib.Omega.{arith}
 use Rattle.tables.specs.Damage.{all_in}
 use Rattle.change_damage.specs.Parts.{row_below}
-use Rattle.tables.proofs.Fold.{fold-again, fold_end}
 use Rattle.change_damage.proofs.rows_below_each.Given as goal
 
 abbrev pub invariant-loop-p : goal.invariant-loop-p

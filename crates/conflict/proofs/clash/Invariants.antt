@@ -1,15 +1,12 @@
 -- `conflict::clash` meets its contract: the whole is what the records, and the entries of this one, from here on say.
-use mathlib.Core.Path.{◌≡◌, refl}
+use mathlib.Core.Path.{◌≡◌}
 use mathlib.Core.Bool.{false}
 use Prim.Native.Nat.{◌-◌, ◌≤◌}
-use native.Mathlib.Omega.{arith}
-use borrow.Author.Rules.{rules}
 use Rattle.bits.specs.Tab.{tab}
 use Rattle.rules.specs.Commit.{conflicts}
 use Rattle.tables.specs.Stretch.{stretch}
 use Rattle.tables.specs.Meaning.{change_at, record_at, entries}
-use Rattle.conflict.proofs.ClashLaws.{none-clash, named, entries_hit, records_hit, some-on, entries-start, records-start}
-use Rattle.conflict.proofs.ClashLaws.{records-ended, records-on, records-met, next_low}
+use Rattle.conflict.proofs.ClashLaws.{named, entries_hit, records_hit}
 use Rattle.conflict.proofs.clash.Given as goal
 
 abbrev pub invariant-loop-i : goal.invariant-loop-i

@@ -1,11 +1,5 @@
 -- `conflict::entries_named` meets its contract: the whole is what the entries from here on say.
-use mathlib.Core.Path.{◌≡◌, refl}
-use Prim.Native.Nat.{◌-◌}
-use native.Mathlib.Omega.{arith}
-use borrow.Author.Rules.{rules}
-use Rattle.tables.specs.Meaning.{change_at}
-use Rattle.tables.specs.Stretch.{stretch}
-use Rattle.conflict.proofs.ClashLaws.{entries_hit, some-on, some-met, some-ended}
+use Rattle.conflict.proofs.ClashLaws.{some-on, some-met, some-ended}
 use Rattle.conflict.proofs.entries_named.Goals as goal
 
 pub returns-then-entry_named : goal.returns-then-entry_named

@@ -1,11 +1,9 @@
 -- `conflict::entries_named` meets its contract: the whole is what the entries from here on say.
-use mathlib.Core.Path.{◌≡◌, refl}
+use mathlib.Core.Path.{◌≡◌}
 use Prim.Native.Nat.{◌-◌}
-use native.Mathlib.Omega.{arith}
-use borrow.Author.Rules.{rules}
 use Rattle.tables.specs.Meaning.{change_at}
 use Rattle.tables.specs.Stretch.{stretch}
-use Rattle.conflict.proofs.ClashLaws.{entries_hit, some-on, some-met, some-ended}
+use Rattle.conflict.proofs.ClashLaws.{entries_hit}
 use Rattle.conflict.proofs.entries_named.Given as goal
 
 abbrev pub invariant-loop-i : goal.invariant-loop-i

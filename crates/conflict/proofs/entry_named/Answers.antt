@@ -1,5 +1,4 @@
 -- `conflict::entry_named` meets its contract: an insert is never named; a row is where a change names it.
-use borrow.Author.Rules.{rules}
 use Rattle.conflict.proofs.ClashLaws.{insert-unnamed, row_named}
 use Rattle.conflict.proofs.entry_named.Goals as goal
 

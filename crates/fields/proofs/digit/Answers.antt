@@ -1,6 +1,5 @@
 -- `fields::digit` meets its contract.
 use native.Mathlib.Omega.{arith}
-use borrow.Author.Rules.{rules}
 use Rattle.fields.proofs.NumberLaws.{digit_low}
 use Rattle.fields.proofs.digit.Goals as goal
 

@@ -1,10 +1,7 @@
 -- `fields::end_from` meets its contract: the end is the same from each place that was passed.
-use mathlib.Core.Path.{◌≡◌, refl}
-use Prim.Native.Nat.{◌-◌, ◌≤◌}
+use mathlib.Core.Path.{refl}
 use native.Mathlib.Omega.{arith}
 use borrow.Author.Rules.{rules}
-use lib.ListN.{length}
-use Rattle.fields.specs.Places.{end_at}
 use Rattle.fields.proofs.SplitLaws.{ends-step, ends-here, ends-end}
 use Rattle.fields.proofs.end_from.Goals as goal
 

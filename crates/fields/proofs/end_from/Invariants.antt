@@ -1,11 +1,8 @@
 -- `fields::end_from` meets its contract: the end is the same from each place that was passed.
-use mathlib.Core.Path.{◌≡◌, refl}
+use mathlib.Core.Path.{◌≡◌}
 use Prim.Native.Nat.{◌-◌, ◌≤◌}
-use native.Mathlib.Omega.{arith}
-use borrow.Author.Rules.{rules}
 use lib.ListN.{length}
 use Rattle.fields.specs.Places.{end_at}
-use Rattle.fields.proofs.SplitLaws.{ends-step, ends-here, ends-end}
 use Rattle.fields.proofs.end_from.Given as goal
 
 abbrev pub invariant-loop-i : goal.invariant-loop-i

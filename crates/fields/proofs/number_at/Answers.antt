@@ -1,5 +1,4 @@
 -- `fields::number_at` meets its contract.
-use borrow.Author.Rules.{rules}
 use Rattle.fields.proofs.NumberLaws.{none-there, there}
 use Rattle.fields.proofs.number_at.Goals as goal
 

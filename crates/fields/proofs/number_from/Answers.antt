@@ -1,13 +1,8 @@
 -- `fields::number_from` meets its contract: the whole answer is that from each place on, with the digits so far.
-use mathlib.Core.Path.{◌≡◌}
-use Prim.Native.Nat.{◌-◌, ◌≤◌}
 use native.Mathlib.Omega.{arith}
 use borrow.Author.Rules.{rules}
-use lib.ListN.{length}
-use Rattle.fields.specs.Number.{number}
-use Rattle.fields.specs.Places.{start_by}
-use Rattle.fields.proofs.NumberLaws.{number_on, on-end, on-space, on-full, on-bad, on_step, first-bad, first-digit}
-use Rattle.fields.proofs.NumberLaws.{digit-yes, digit-high, most, most-first, most_step, most-le}
+use Rattle.fields.proofs.NumberLaws.{on-end, on-space, on-full, on-bad, on_step, first-bad, first-digit}
+use Rattle.fields.proofs.NumberLaws.{digit-yes, digit-high, most-first, most_step, most-le}
 use Rattle.fields.proofs.number_from.Goals as goal
 
 pub overflow_add-x : goal.overflow_add-x

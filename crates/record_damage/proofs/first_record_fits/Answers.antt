@@ -1,5 +1,4 @@
 -- `first_record_fits` meets its contract: against the first row count; its changes start at 0.
-use borrow.Author.Rules.{rules}
 use Rattle.record_damage.proofs.RecordLaws.{first-record}
 use Rattle.record_damage.proofs.first_record_fits.Goals as goal
 

@@ -1,9 +1,7 @@
 -- `later_records_close` meets its contract: a fold that gathers what the records are off by.
 use Prim.Native.Nat.{◌-◌, ◌≤◌}
-use native.Mathlib.Omega.{arith}
-use borrow.Author.Rules.{rules}
 use Rattle.record_damage.specs.Parts.{Within}
-use Rattle.record_damage.proofs.CloseLaws.{stamp_off, kind_off, rows_off, end_off, within_none, within_more, stamps-more, close-fits}
+use Rattle.record_damage.proofs.CloseLaws.{stamp_off, kind_off, rows_off, end_off}
 use Rattle.record_damage.proofs.later_records_close.Given as goal
 
 abbrev pub invariant-loop-k : goal.invariant-loop-k

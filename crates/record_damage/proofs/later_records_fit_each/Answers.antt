@@ -1,9 +1,6 @@
 -- `later_records_fit_each` meets its contract: a fold; the whole is what was found so far and the rest.
-use mathlib.Core.Path.{◌≡◌, refl}
-use mathlib.Core.Bool.{◌&&◌}
-use Prim.Native.Nat.{◌-◌, ◌≤◌}
+use mathlib.Core.Path.{refl}
 use native.Mathlib.Omega.{arith}
-use Rattle.tables.specs.Damage.{all_in, record_fits}
 use Rattle.tables.proofs.Fold.{fold-again, fold_end}
 use Rattle.record_damage.proofs.later_records_fit_each.Goals as goal
 

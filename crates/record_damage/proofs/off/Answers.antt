@@ -1,6 +1,5 @@
 -- `off` meets its contract.
 use native.Mathlib.Omega.{arith}
-use borrow.Author.Rules.{rules}
 use Rattle.record_damage.proofs.CloseLaws.{gap-above, gap_below}
 use Rattle.record_damage.proofs.off.Goals as goal
 

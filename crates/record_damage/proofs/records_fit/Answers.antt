@@ -1,6 +1,5 @@
 -- `records_fit` meets its contract: record 1, the later ones, and where the last one ends.
 use native.Mathlib.Omega.{arith}
-use borrow.Author.Rules.{rules}
 use Rattle.tables.proofs.ClockLaws.{low-stamp, low-records}
 use Rattle.record_damage.proofs.RecordLaws.{all-records}
 use Rattle.record_damage.proofs.records_fit.Goals as goal

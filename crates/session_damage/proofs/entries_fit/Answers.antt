@@ -1,7 +1,6 @@
 -- `entries_fit` meets its contract: the limits, each entry, and that each row is listed once.
 use Rattle.std.proofs.Common.{ap, not}
 use native.Mathlib.Omega.{arith}
-use borrow.Author.Rules.{rules}
 use Rattle.session_damage.proofs.EntryLaws.{long-list, many-rows, many-values, bad-entry, rows-in-vector, short-list, once-decides}
 use Rattle.session_damage.proofs.PlainLaws.{plain-list}
 use Rattle.session_damage.proofs.entries_fit.Goals as goal

@@ -1,11 +1,4 @@
 -- `list_fits` meets its contract: a fold; the whole is what was found so far and the rest.
-use mathlib.Core.Path.{◌≡◌}
-use mathlib.Core.Bool.{◌&&◌}
-use Prim.Native.Nat.{◌-◌}
-use native.Mathlib.Omega.{arith}
-use borrow.Author.Rules.{rules}
-use Rattle.bits.specs.All.{all_below}
-use Rattle.tables.specs.Damage.{all_in}
 use Rattle.session_damage.specs.Parts.{listed}
 use Rattle.tables.proofs.Fold.{below_in, fold-again, fold_end}
 use Rattle.session_damage.proofs.list_fits.Goals as goal

@@ -2,12 +2,9 @@
 use mathlib.Core.Path.{◌≡◌}
 use mathlib.Core.Bool.{◌&&◌}
 use Prim.Native.Nat.{◌-◌}
-use native.Mathlib.Omega.{arith}
-use borrow.Author.Rules.{rules}
 use Rattle.bits.specs.All.{all_below}
 use Rattle.tables.specs.Damage.{all_in}
 use Rattle.session_damage.specs.Parts.{listed}
-use Rattle.tables.proofs.Fold.{below_in, fold-again, fold_end}
 use Rattle.session_damage.proofs.list_fits.Given as goal
 
 abbrev pub invariant-loop-i : goal.invariant-loop-i

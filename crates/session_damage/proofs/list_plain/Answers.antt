@@ -1,8 +1,6 @@
 -- `list_plain` meets its contract: a fold that carries the bits that were seen.
-use Prim.Native.Nat.{◌-◌, ◌≤◌}
 use native.Mathlib.Omega.{arith}
-use borrow.Author.Rules.{rules}
-use Rattle.session_damage.proofs.PlainLaws.{Plain, plain-none, plain_more, plain_end}
+use Rattle.session_damage.proofs.PlainLaws.{plain-none, plain_more, plain_end}
 use Rattle.session_damage.proofs.list_plain.Goals as goal
 
 pub returns : goal.returns

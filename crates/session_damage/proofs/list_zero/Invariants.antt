@@ -1,11 +1,8 @@
 -- `list_zero` meets its contract: a fold that gathers the rows in one number and the targets in another.
 use mathlib.Core.Path.{◌≡◌}
 use Prim.Native.Nat.{◌-◌, ◌≤◌}
-use native.Mathlib.Omega.{arith}
 use lib.ListN.{get_or}
 use Rattle.bits.specs.OrWords.{or_below}
-use Rattle.bits.proofs.OrLaws.{or-zero, or-more}
-use Rattle.session_damage.proofs.EntryLaws.{zero-gathered}
 use Rattle.session_damage.proofs.list_zero.Given as goal
 
 abbrev pub invariant-loop-i : goal.invariant-loop-i

@@ -1,13 +1,5 @@
 -- `listed_once` meets its contract: a scan that keeps the rows it has seen; the whole is the rest from here on.
-use mathlib.Core.Path.{◌≡◌}
-use mathlib.Core.Logic.{⊎_elim}
-use Prim.Native.Nat.{◌-◌}
-use native.Mathlib.Omega.{arith}
-use borrow.Author.Rules.{rules}
-use Rattle.bits.specs.All.{all_below}
-use Rattle.tables.specs.Damage.{all_in}
-use Rattle.session_damage.specs.Parts.{once_in}
-use Rattle.session_damage.proofs.OnceLaws.{row-twice, row-rest, row_seen, insert-rest, insert-seen, Seen, seen_none, row_low}
+use Rattle.session_damage.proofs.OnceLaws.{row-twice, row-rest, row_seen, insert-rest, insert-seen, seen_none, row_low}
 use Rattle.tables.proofs.Fold.{below_in, scan-end}
 use Rattle.session_damage.proofs.listed_once.Goals as goal
 use Rattle.session_damage.proofs.listed_once.Goals.{then-at-i+else-get_in, else-at-i}
@@ -15,8 +7,8 @@ use Rattle.session_damage.proofs.listed_once.Goals.{then-at-i+else-get_in, else-
 pub loop-i-preserved : goal.loop-i-preserved
 loop-i-preserved c =
     elim c.if-at-i.branch [
-      then-at-i+else-get_in w ↦ (search row-rest, search row_seen)
-    | else-at-i w ↦ (search insert-rest, search insert-seen)
+      | then-at-i+else-get_in w ↦ (search row-rest, search row_seen)
+      | else-at-i w ↦ (search insert-rest, search insert-seen)
     ]
 
 pub loop-i-init : goal.loop-i-init

@@ -1,14 +1,10 @@
 -- `listed_once` meets its contract: a scan that keeps the rows it has seen; the whole is the rest from here on.
 use mathlib.Core.Path.{◌≡◌}
-use mathlib.Core.Logic.{⊎_elim}
 use Prim.Native.Nat.{◌-◌}
-use native.Mathlib.Omega.{arith}
-use borrow.Author.Rules.{rules}
 use Rattle.bits.specs.All.{all_below}
 use Rattle.tables.specs.Damage.{all_in}
 use Rattle.session_damage.specs.Parts.{once_in}
-use Rattle.session_damage.proofs.OnceLaws.{row-twice, row-rest, row_seen, insert-rest, insert-seen, Seen, seen_none, row_low}
-use Rattle.tables.proofs.Fold.{below_in, scan-end}
+use Rattle.session_damage.proofs.OnceLaws.{Seen}
 use Rattle.session_damage.proofs.listed_once.Given as goal
 
 abbrev pub invariant-loop-i : goal.invariant-loop-i

@@ -1,5 +1,4 @@
 -- `session_fits` meets its contract: a free session, and an open one by its start and its entries.
-use borrow.Author.Rules.{rules}
 use Rattle.session_damage.proofs.JudgedLaws.{free-judged, bad-start, entries-decide}
 use Rattle.session_damage.proofs.session_fits.Goals as goal
 

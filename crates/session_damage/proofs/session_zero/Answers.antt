@@ -1,5 +1,4 @@
 -- `session_zero` meets its contract: four cells and the list.
-use borrow.Author.Rules.{rules}
 use Rattle.session_damage.proofs.EntryLaws.{zero-session}
 use Rattle.session_damage.proofs.session_zero.Goals as goal
 

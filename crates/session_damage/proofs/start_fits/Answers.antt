@@ -1,5 +1,4 @@
 -- `start_fits` meets its contract: the stamp, the log, and the row count of that moment.
-use borrow.Author.Rules.{rules}
 use Rattle.session_damage.proofs.StartLaws.{late-start, high-start, short-log, known_start}
 use Rattle.session_damage.proofs.start_fits.Goals as goal
 

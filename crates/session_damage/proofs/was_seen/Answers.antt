@@ -1,6 +1,5 @@
 -- `was_seen` meets its contract: the test is the definition of `bit`.
 use mathlib.Core.Path.{refl}
-use borrow.Author.Rules.{rules}
 use Rattle.bits.specs.Bit.{bit}
 use Rattle.session_damage.proofs.was_seen.Goals as goal
 

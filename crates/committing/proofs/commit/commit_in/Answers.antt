@@ -1,5 +1,4 @@
 -- `commit::commit_in` meets its contract: refused by the shared tests, or the rest of the call decides.
-use borrow.Author.Rules.{rules}
 use Rattle.outcomes.proofs.OpenLaws.{opened-usable}
 use Rattle.committing.proofs.CommitCores.{commit-refused, commit-on}
 use Rattle.committing.proofs.commit.commit_in.Goals as goal

@@ -1,5 +1,4 @@
 -- `commit::commit_now` meets its contract: refused, or what is written is what the rules store.
-use borrow.Author.Rules.{rules}
 use Rattle.committing.proofs.CommitTests.{commit-asked}
 use Rattle.committing.proofs.CommitCores.{now-ready, now-refused, now-done}
 use Rattle.committing.proofs.commit.commit_now.Goals as goal

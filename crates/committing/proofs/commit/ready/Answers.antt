@@ -1,5 +1,4 @@
 -- `commit::ready` meets its contract: one law for each test that holds, and one where none does.
-use borrow.Author.Rules.{rules}
 use Rattle.committing.proofs.CommitTests.{list-empty, list-clashes, rows_pass, records-full, changes-pass, commit-passes}
 use Rattle.committing.proofs.CommitTests.{ready-searched, ready-rows-few}
 use Rattle.committing.proofs.commit.ready.Goals as goal

@@ -1,5 +1,4 @@
 -- `writes::new_set` meets its contract: the set at the start, its read and its target toggled.
-use borrow.Author.Rules.{rules}
 use Rattle.committing.proofs.WriteLaws.{new-readable, new_is}
 use Rattle.committing.proofs.writes.new_set.Goals as goal
 

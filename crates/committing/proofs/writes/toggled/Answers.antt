@@ -1,5 +1,4 @@
 -- `writes::toggled` meets its contract: a set has 32 values.
-use borrow.Author.Rules.{rules}
 use Rattle.committing.proofs.WriteLaws.{toggled-absent, toggled-low, toggled-high}
 use Rattle.committing.proofs.writes.toggled.Goals as goal
 

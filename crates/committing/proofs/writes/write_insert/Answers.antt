@@ -1,5 +1,4 @@
 -- `writes::write_insert` meets its contract: one change stored.
-use borrow.Author.Rules.{rules}
 use Rattle.committing.proofs.writes.write_insert.Goals as goal
 
 pub returns : goal.returns

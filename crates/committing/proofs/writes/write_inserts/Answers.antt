@@ -1,11 +1,6 @@
 -- `writes::write_inserts` meets its contract: the inserts among the first i entries are stored.
-use mathlib.Core.Path.{◌≡◌, refl}
-use mathlib.Core.Logic.{⊎_elim}
-use Prim.Native.Nat.{◌+◌, ◌-◌, ◌≤◌}
+use mathlib.Core.Path.{refl}
 use native.Mathlib.Omega.{arith}
-use borrow.Author.Rules.{rules}
-use lib.ListN.{length}
-use Rattle.committing.specs.Commit.{InsertsStored}
 use Rattle.committing.proofs.WriteLaws.{length-put}
 use Rattle.committing.proofs.WriteLaws.{inserts-start, insert-place, insert-row, inserts-more, inserts-skip, inserts-all}
 use Rattle.committing.proofs.writes.write_inserts.Goals as goal
@@ -14,8 +9,8 @@ use Rattle.committing.proofs.writes.write_inserts.Goals.{then-s-i, else-s-i}
 pub loop-i-preserved : goal.loop-i-preserved
 loop-i-preserved c =
     elim c.if-s-i.branch [
-      then-s-i w ↦ (omega arith, search length-put, omega arith, search inserts-more)
-    | else-s-i w ↦ (omega arith, (cc), omega arith, search inserts-skip)
+      | then-s-i w ↦ (omega arith, search length-put, omega arith, search inserts-more)
+      | else-s-i w ↦ (omega arith, (cc), omega arith, search inserts-skip)
     ]
 
 pub loop-i-init : goal.loop-i-init

@@ -1,13 +1,8 @@
 -- `writes::write_inserts` meets its contract: the inserts among the first i entries are stored.
-use mathlib.Core.Path.{◌≡◌, refl}
-use mathlib.Core.Logic.{⊎_elim}
+use mathlib.Core.Path.{◌≡◌}
 use Prim.Native.Nat.{◌+◌, ◌-◌, ◌≤◌}
-use native.Mathlib.Omega.{arith}
-use borrow.Author.Rules.{rules}
 use lib.ListN.{length}
 use Rattle.committing.specs.Commit.{InsertsStored}
-use Rattle.committing.proofs.WriteLaws.{length-put}
-use Rattle.committing.proofs.WriteLaws.{inserts-start, insert-place, insert-row, inserts-more, inserts-skip, inserts-all}
 use Rattle.committing.proofs.writes.write_inserts.Given as goal
 
 abbrev pub invariant-loop-i : goal.invariant-loop-i

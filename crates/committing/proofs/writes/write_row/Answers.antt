@@ -1,5 +1,4 @@
 -- `writes::write_row` meets its contract: one change stored.
-use borrow.Author.Rules.{rules}
 use Rattle.committing.proofs.WriteLaws.{row_written}
 use Rattle.committing.proofs.writes.write_row.Goals as goal
 

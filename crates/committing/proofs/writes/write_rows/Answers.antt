@@ -1,12 +1,6 @@
 -- `writes::write_rows` meets its contract: the rows among the first i entries are stored.
-use mathlib.Core.Path.{◌≡◌, refl}
-use mathlib.Core.Logic.{⊎_elim}
-use Prim.Native.Nat.{◌+◌, ◌-◌, ◌≤◌}
+use mathlib.Core.Path.{refl}
 use native.Mathlib.Omega.{arith}
-use borrow.Author.Rules.{rules}
-use lib.ListN.{length}
-use Rattle.tables.specs.Cells.{values_in}
-use Rattle.committing.specs.Commit.{new_cells, RowsStored}
 use Rattle.committing.proofs.WriteLaws.{length-put, rows_start, row-ready, rows_more, rows-skip, rows_all}
 use Rattle.committing.proofs.writes.write_rows.Goals as goal
 use Rattle.committing.proofs.writes.write_rows.Goals.{then-s-i, else-s-i}
@@ -14,8 +8,8 @@ use Rattle.committing.proofs.writes.write_rows.Goals.{then-s-i, else-s-i}
 pub loop-i-preserved : goal.loop-i-preserved
 loop-i-preserved c =
     elim c.if-s-i.branch [
-      then-s-i w ↦ (omega arith, search length-put, omega arith, search rows_more)
-    | else-s-i w ↦ (omega arith, (cc), omega arith, search rows-skip)
+      | then-s-i w ↦ (omega arith, search length-put, omega arith, search rows_more)
+      | else-s-i w ↦ (omega arith, (cc), omega arith, search rows-skip)
     ]
 
 pub loop-i-init : goal.loop-i-init

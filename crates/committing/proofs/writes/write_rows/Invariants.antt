@@ -1,13 +1,9 @@
 -- `writes::write_rows` meets its contract: the rows among the first i entries are stored.
-use mathlib.Core.Path.{◌≡◌, refl}
-use mathlib.Core.Logic.{⊎_elim}
+use mathlib.Core.Path.{◌≡◌}
 use Prim.Native.Nat.{◌+◌, ◌-◌, ◌≤◌}
-use native.Mathlib.Omega.{arith}
-use borrow.Author.Rules.{rules}
 use lib.ListN.{length}
 use Rattle.tables.specs.Cells.{values_in}
 use Rattle.committing.specs.Commit.{new_cells, RowsStored}
-use Rattle.committing.proofs.WriteLaws.{length-put, rows_start, row-ready, rows_more, rows-skip, rows_all}
 use Rattle.committing.proofs.writes.write_rows.Given as goal
 
 abbrev pub invariant-loop-i : goal.invariant-loop-i

@@ -1,6 +1,5 @@
 -- `numbers_fit` meets its contract: a table at a time; each next one may rely on those before it.
 use native.Mathlib.Omega.{arith}
-use borrow.Author.Rules.{rules}
 use Rattle.tables.proofs.Tests.{found-true}
 use Rattle.std.proofs.Common.{sym, ◌∙◌}
 use Rattle.damage.proofs.NumberLaws.{bad-clock, bad-records, bad-changes, bad-slots, bad-heads, vectors-decide}

@@ -1,5 +1,4 @@
 -- `first_slot_fits` meets its contract: three comparisons.
-use borrow.Author.Rules.{rules}
 use Rattle.damage.proofs.SlotLaws.{first_slot}
 use Rattle.damage.proofs.slots.first_slot_fits.Goals as goal
 

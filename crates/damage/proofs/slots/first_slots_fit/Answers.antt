@@ -1,10 +1,4 @@
 -- `first_slots_fit` meets its contract: a fold; the whole is what was found so far and the rest.
-use mathlib.Core.Path.{◌≡◌}
-use mathlib.Core.Bool.{◌&&◌}
-use Prim.Native.Nat.{◌-◌}
-use native.Mathlib.Omega.{arith}
-use Rattle.bits.specs.All.{all_below}
-use Rattle.tables.specs.Damage.{all_in, first_slot_fits}
 use Rattle.tables.proofs.Fold.{below_in, fold-again, fold_end}
 use Rattle.damage.proofs.slots.first_slots_fit.Goals as goal
 

@@ -1,5 +1,4 @@
 -- `head_fits` meets its contract: a head past the slots in use, and one of them.
-use borrow.Author.Rules.{rules}
 use Rattle.damage.proofs.SlotLaws.{past_head, used-head}
 use Rattle.damage.proofs.slots.head_fits.Goals as goal
 

@@ -1,9 +1,5 @@
 -- `heads_fit` meets its contract: a scan; the whole is the rest from here on.
-use mathlib.Core.Path.{◌≡◌}
-use Prim.Native.Nat.{◌-◌, ◌≤◌}
 use native.Mathlib.Omega.{arith}
-use borrow.Author.Rules.{rules}
-use Rattle.tables.specs.Damage.{all_in, head_fits, heads_fit}
 use Rattle.tables.proofs.ClockLaws.{low_values, low-slots}
 use Rattle.tables.proofs.Fold.{scan-again, scan-fails, scan-end}
 use Rattle.damage.proofs.SlotLaws.{all-heads}

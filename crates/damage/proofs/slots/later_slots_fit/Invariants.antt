@@ -1,11 +1,7 @@
 -- `later_slots_fit` meets its contract: a scan; the whole is the rest from here on.
 use mathlib.Core.Path.{◌≡◌}
 use Prim.Native.Nat.{◌-◌}
-use native.Mathlib.Omega.{arith}
-use borrow.Author.Rules.{rules}
 use Rattle.tables.specs.Damage.{all_in, later_slot_fits}
-use Rattle.tables.proofs.Fold.{scan-begin, scan-again, scan-fails, scan-end}
-use Rattle.damage.proofs.SlotLaws.{later-slot}
 use Rattle.damage.proofs.slots.later_slots_fit.Given as goal
 
 abbrev pub invariant-loop-i : goal.invariant-loop-i

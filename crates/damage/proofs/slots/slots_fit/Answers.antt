@@ -1,6 +1,5 @@
 -- `slots_fit` meets its contract: the slots below C and the later ones.
 use native.Mathlib.Omega.{arith}
-use borrow.Author.Rules.{rules}
 use Rattle.tables.proofs.ClockLaws.{low-first-slots, low-slots}
 use Rattle.damage.proofs.SlotLaws.{all_slots}
 use Rattle.damage.proofs.slots.slots_fit.Goals as goal

@@ -1,8 +1,5 @@
 -- `each_vector_fits` meets its contract: a scan; the whole is the rest from here on.
-use mathlib.Core.Path.{◌≡◌, refl}
-use Prim.Native.Nat.{◌-◌}
 use native.Mathlib.Omega.{arith}
-use Rattle.tables.specs.Damage.{all_in, vector_fits}
 use Rattle.tables.proofs.Fold.{scan-again, scan-fails, scan-end}
 use Rattle.damage.proofs.VectorLaws.{stamp-low}
 use Rattle.damage.proofs.tails.each_vector_fits.Goals as goal

@@ -1,10 +1,7 @@
 -- `each_vector_fits` meets its contract: a scan; the whole is the rest from here on.
-use mathlib.Core.Path.{◌≡◌, refl}
+use mathlib.Core.Path.{◌≡◌}
 use Prim.Native.Nat.{◌-◌}
-use native.Mathlib.Omega.{arith}
 use Rattle.tables.specs.Damage.{all_in, vector_fits}
-use Rattle.tables.proofs.Fold.{scan-again, scan-fails, scan-end}
-use Rattle.damage.proofs.VectorLaws.{stamp-low}
 use Rattle.damage.proofs.tails.each_vector_fits.Given as goal
 
 abbrev pub invariant-loop-i : goal.invariant-loop-i

@@ -1,5 +1,4 @@
 -- `vector_fits` meets its contract: the 32 words of the slot, at the row count of its stamp.
-use borrow.Author.Rules.{rules}
 use Rattle.damage.proofs.VectorLaws.{one-vector}
 use Rattle.damage.proofs.tails.vector_fits.Goals as goal
 

@@ -1,6 +1,5 @@
 -- `vectors_fit` meets its contract: all vectors at once while the row count is the first one, else those below C, and then each.
 use native.Mathlib.Omega.{arith}
-use borrow.Author.Rules.{rules}
 use Rattle.tables.proofs.ClockLaws.{low-first-slots, low-slots}
 use Rattle.damage.proofs.VectorLaws.{room_for, stamps-low, one-count, first-fails, rest-decides}
 use Rattle.damage.proofs.tails.vectors_fit.Goals as goal

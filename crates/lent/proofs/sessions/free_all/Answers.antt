@@ -1,7 +1,8 @@
 -- One more place freed is a step of what is left; at the end nothing is left, and at the start all.
-use Rattle.std.proofs.Common.{◌≡◌, ◌+◌, ◌≤◌, List, ℕ, Bool, sym, ◌∙◌, ap, arith}
+use Rattle.std.proofs.Common.{◌+◌, List, sym, ◌∙◌, ap, arith}
 use Rattle.tables.specs.declared.session.Session.{Session}
-use Rattle.lent.specs.Places.{left_freed, freed-next, left-none, left-all}
+use Rattle.lent.specs.Places.{left_freed}
+use Rattle.lent.proofs.PlaceTheorems.{freed-next, left-none, left-all}
 use Rattle.lent.proofs.sessions.free_all.Goals as goal
 
 pub loop-n-preserved : goal.loop-n-preserved

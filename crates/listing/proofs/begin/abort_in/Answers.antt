@@ -1,6 +1,5 @@
 -- `begin::abort_in` meets its contract.
 use Rattle.listing.proofs.BeginLaws.{abort_refused, abort-frees}
-use borrow.Author.Rules.{rules}
 use Rattle.listing.proofs.begin.abort_in.Goals as goal
 
 pub returns-in-No : goal.returns-in-No

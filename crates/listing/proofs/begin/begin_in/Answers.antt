@@ -1,6 +1,5 @@
 -- `begin::begin_in` meets its contract.
 use Rattle.listing.proofs.BeginLaws.{begin-refused, begin-clock, begin-again, begin-new}
-use borrow.Author.Rules.{rules}
 use Rattle.listing.proofs.begin.begin_in.Goals as goal
 
 pub returns-then-s-eq1 : goal.returns-then-s-eq1

@@ -1,5 +1,4 @@
 -- `change::appended` meets its contract: the list is full, or has an entry more.
-use borrow.Author.Rules.{rules}
 use Rattle.listing.proofs.ChangeLaws.{append-full, append-more}
 use Rattle.listing.proofs.change.appended.Goals as goal
 

@@ -1,5 +1,4 @@
 -- `change::change_row` meets its contract: one law for each of its ends.
-use borrow.Author.Rules.{rules}
 use Rattle.listing.proofs.ChangeCores.{change-no-row, change-stands, change-absent, change-on}
 use Rattle.listing.proofs.change.change_row.Goals as goal
 

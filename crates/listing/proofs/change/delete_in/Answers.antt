@@ -1,5 +1,4 @@
 -- `change::delete_in` meets its contract: refused by the shared tests, or the rest of the call decides.
-use borrow.Author.Rules.{rules}
 use Rattle.listing.proofs.ChangeCores.{delete-refused, delete-on}
 use Rattle.outcomes.proofs.OpenLaws.{opened-usable}
 use Rattle.listing.proofs.change.delete_in.Goals as goal

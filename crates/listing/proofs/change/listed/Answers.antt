@@ -1,5 +1,4 @@
 -- `change::listed` meets its contract: the row stands in the list, or an entry is appended.
-use borrow.Author.Rules.{rules}
 use Rattle.listing.proofs.ChangeLaws.{target-there, target-new}
 use Rattle.listing.proofs.change.listed.Goals as goal
 

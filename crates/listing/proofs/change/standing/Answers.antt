@@ -1,5 +1,4 @@
 -- `change::standing` meets its contract: the row is listed, or its read decides.
-use borrow.Author.Rules.{rules}
 use Rattle.listing.proofs.ChangeLaws.{stands-listed, stands-ready, stands_read}
 use Rattle.listing.proofs.change.standing.Goals as goal
 

@@ -1,5 +1,4 @@
 -- `answers::not_put_back` meets its contract.
-use borrow.Author.Rules.{rules}
 use Rattle.outcomes.specs.Seats.{relists_none}
 use Rattle.outcomes.proofs.answers.not_put_back.Goals as goal
 

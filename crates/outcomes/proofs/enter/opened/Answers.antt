@@ -1,6 +1,5 @@
 -- `enter::opened` meets its contract.
 use Rattle.outcomes.proofs.EnterLaws.{opened-stays, not-open, placed-clock, out-of-reach, opened-passes}
-use borrow.Author.Rules.{rules}
 use Rattle.outcomes.proofs.enter.opened.Goals as goal
 
 pub returns-in_default : goal.returns-in_default

@@ -1,6 +1,5 @@
 -- `enter::placed` meets its contract.
 use Rattle.outcomes.proofs.EnterLaws.{no_room, found-room, sessions-unfit, numbers-unfit, first-decides, past-table, in_table}
-use borrow.Author.Rules.{rules}
 use Rattle.outcomes.proofs.enter.placed.Goals as goal
 
 pub returns-then-not-room : goal.returns-then-not-room

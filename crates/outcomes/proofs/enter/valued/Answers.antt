@@ -1,6 +1,5 @@
 -- `enter::valued` meets its contract.
 use Rattle.outcomes.proofs.EnterLaws.{valued-stays, opened-clock, no_value, valued-passes}
-use borrow.Author.Rules.{rules}
 use Rattle.outcomes.proofs.enter.valued.Goals as goal
 
 pub returns-in_default : goal.returns-in_default

@@ -1,13 +1,5 @@
 -- `lists::inserts` meets its contract: the count is that of the first i entries.
-use mathlib.Core.Path.{◌≡◌}
-use mathlib.Core.Logic.{⊎_elim}
-use Prim.Native.Nat.{◌-◌, ◌≤◌}
 use native.Mathlib.Omega.{arith}
-use borrow.Author.Rules.{rules}
-use lib.ListN.{length}
-use Rattle.bits.specs.Tab.{tab}
-use Rattle.rules.specs.Lists.{inserts}
-use Rattle.tables.specs.Meaning.{entry_at}
 use Rattle.outcomes.proofs.ListLaws.{counted_none, counted-new, counted-row, counted-all}
 use Rattle.outcomes.proofs.lists.inserts.Goals as goal
 use Rattle.outcomes.proofs.lists.inserts.Goals.{then-s-i, else-s-i}
@@ -18,8 +10,8 @@ loop-i-init c = (omega arith, omega arith, search counted_none)
 pub loop-i-preserved : goal.loop-i-preserved
 loop-i-preserved c =
     elim c.if-s-i.branch [
-      then-s-i w ↦ (omega arith, omega arith, search counted-new)
-    | else-s-i w ↦ (omega arith, omega arith, search counted-row)
+      | then-s-i w ↦ (omega arith, omega arith, search counted-new)
+      | else-s-i w ↦ (omega arith, omega arith, search counted-row)
     ]
 
 pub returns : goal.returns

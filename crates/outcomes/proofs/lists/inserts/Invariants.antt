@@ -1,14 +1,10 @@
 -- `lists::inserts` meets its contract: the count is that of the first i entries.
 use mathlib.Core.Path.{◌≡◌}
-use mathlib.Core.Logic.{⊎_elim}
 use Prim.Native.Nat.{◌-◌, ◌≤◌}
-use native.Mathlib.Omega.{arith}
-use borrow.Author.Rules.{rules}
 use lib.ListN.{length}
 use Rattle.bits.specs.Tab.{tab}
 use Rattle.rules.specs.Lists.{inserts}
 use Rattle.tables.specs.Meaning.{entry_at}
-use Rattle.outcomes.proofs.ListLaws.{counted_none, counted-new, counted-row, counted-all}
 use Rattle.outcomes.proofs.lists.inserts.Given as goal
 
 abbrev pub invariant-loop-i : goal.invariant-loop-i

@@ -1,11 +1,6 @@
 -- `lists::spot_of` meets its contract: no entry so far has the row.
-use mathlib.Core.Path.{◌≡◌}
-use mathlib.Core.Option.{none}
-use Prim.Native.Nat.{◌-◌, ◌≤◌}
 use native.Mathlib.Omega.{arith}
-use borrow.Author.Rules.{rules}
-use Rattle.bits.specs.Rows.{smallest_below}
-use Rattle.outcomes.proofs.ListLaws.{has_row, spot-start, spot-here, spot_past, spot-none}
+use Rattle.outcomes.proofs.ListLaws.{spot-start, spot-here, spot_past, spot-none}
 use Rattle.outcomes.proofs.lists.spot_of.Goals as goal
 
 pub loop-i-init : goal.loop-i-init

@@ -2,10 +2,8 @@
 use mathlib.Core.Path.{◌≡◌}
 use mathlib.Core.Option.{none}
 use Prim.Native.Nat.{◌-◌, ◌≤◌}
-use native.Mathlib.Omega.{arith}
-use borrow.Author.Rules.{rules}
 use Rattle.bits.specs.Rows.{smallest_below}
-use Rattle.outcomes.proofs.ListLaws.{has_row, spot-start, spot-here, spot_past, spot-none}
+use Rattle.outcomes.proofs.ListLaws.{has_row}
 use Rattle.outcomes.proofs.lists.spot_of.Given as goal
 
 abbrev pub invariant-loop-i : goal.invariant-loop-i

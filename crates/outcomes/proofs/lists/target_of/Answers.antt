@@ -1,5 +1,4 @@
 -- `lists::target_of` meets its contract: 255, or a value.
-use borrow.Author.Rules.{rules}
 use Rattle.outcomes.proofs.ListLaws.{target-absent, target-holds}
 use Rattle.outcomes.proofs.lists.target_of.Goals as goal
 

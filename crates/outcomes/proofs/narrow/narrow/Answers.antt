@@ -1,6 +1,5 @@
 -- `narrow::narrow` meets its contract.
 use Rattle.outcomes.proofs.NarrowLaws.{narrow-past, narrow-here}
-use borrow.Author.Rules.{rules}
 use Rattle.outcomes.proofs.narrow.narrow.Goals as goal
 
 pub returns-then-n-gt4294967295 : goal.returns-then-n-gt4294967295

@@ -3,7 +3,6 @@ use lib.Seq.{length-take-le}
 use native.Mathlib.Omega.{arith}
 use mathlib.Core.Path.{sym}
 use Rattle.reading.proofs.PickLaws.{pick-none, pick-scratch, pick-past, pick-short, pick-slot}
-use borrow.Author.Rules.{rules}
 use Rattle.reading.proofs.query.picked.Goals as goal
 
 pub returns-then-scratch-lt32 : goal.returns-then-scratch-lt32

@@ -1,6 +1,5 @@
 -- `query::query_in` meets its contract.
 use Rattle.reading.proofs.QueryLaws.{query-refused, query-ready, query-short, query-own, query-copied}
-use borrow.Author.Rules.{rules}
 use Rattle.reading.proofs.query.query_in.Goals as goal
 
 pub returns-then-scratch-lt32 : goal.returns-then-scratch-lt32

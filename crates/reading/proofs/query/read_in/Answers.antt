@@ -1,6 +1,5 @@
 -- `query::read_in` meets its contract.
 use Rattle.reading.proofs.ReadLaws.{read-refused, read-clock, read-readies, read-no-row, read-reads}
-use borrow.Author.Rules.{rules}
 use Rattle.reading.proofs.query.read_in.Goals as goal
 
 pub returns-then-rows-row : goal.returns-then-rows-row

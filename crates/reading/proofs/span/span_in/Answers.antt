@@ -1,7 +1,6 @@
 -- `span::span_in` meets its contract.
 use Rattle.reading.proofs.SpanLaws.{span-refused, span-clock, span-no-value, span-backward, span-readies, span-short}
 use Rattle.reading.proofs.SpanLaws.{count_low, span-lists}
-use borrow.Author.Rules.{rules}
 use Rattle.reading.proofs.span.span_in.Goals as goal
 
 pub clock_of-c-requires : goal.clock_of-c-requires

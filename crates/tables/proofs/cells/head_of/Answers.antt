@@ -1,6 +1,5 @@
 -- `head_of` meets its contract: the cell of the value.
 use Rattle.tables.proofs.Access.{cell_at}
-use borrow.Author.Rules.{rules}
 use Rattle.tables.proofs.cells.head_of.Goals as goal
 
 pub returns : goal.returns

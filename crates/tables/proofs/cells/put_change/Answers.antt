@@ -3,7 +3,6 @@ use mathlib.Core.Path.{refl}
 use native.Mathlib.Omega.{arith}
 use lib.ListN.{length-set}
 use Rattle.tables.specs.Stores.{put_change}
-use borrow.Author.Rules.{rules}
 use Rattle.tables.proofs.cells.put_change.Goals as goal
 
 pub returns : goal.returns

@@ -1,7 +1,6 @@
 -- `put_head` meets its contract: one store.
 use Rattle.tables.specs.Stores.{put_head}
 use Rattle.tables.proofs.Access.{set-at-same}
-use borrow.Author.Rules.{rules}
 use Rattle.tables.proofs.cells.put_head.Goals as goal
 
 pub returns : goal.returns

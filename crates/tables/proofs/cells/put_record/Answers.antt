@@ -2,7 +2,6 @@
 use Rattle.tables.proofs.Access.{record-at}
 use native.Mathlib.Omega.{arith}
 use lib.ListN.{length-set}
-use borrow.Author.Rules.{rules}
 use Rattle.tables.proofs.cells.put_record.Goals as goal
 
 pub bounds-log-k-2 : goal.bounds-log-k-2

@@ -3,7 +3,6 @@ use mathlib.Core.Path.{refl}
 use native.Mathlib.Omega.{arith}
 use lib.ListN.{length-set}
 use Rattle.tables.specs.Stores.{put_slot}
-use borrow.Author.Rules.{rules}
 use Rattle.tables.proofs.cells.put_slot.Goals as goal
 
 pub returns : goal.returns

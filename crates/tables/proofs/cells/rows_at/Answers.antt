@@ -1,6 +1,5 @@
 -- `rows_at` meets its contract: the row count of the record before stamp s + 1.
 use Rattle.tables.proofs.Access.{rows-later}
-use borrow.Author.Rules.{rules}
 use Rattle.tables.proofs.cells.rows_at.Goals as goal
 
 pub returns : goal.returns

@@ -1,7 +1,6 @@
 -- `advanced` meets its contract.
 use mathlib.Core.Path.{refl}
 use Rattle.tables.specs.Clock.{later}
-use borrow.Author.Rules.{rules}
 use Rattle.tables.proofs.clock.advanced.Goals as goal
 
 pub returns : goal.returns

@@ -1,6 +1,5 @@
 -- `clock_lent` meets its contract.
 use Rattle.tables.proofs.Access.{clock-short, clock-long}
-use borrow.Author.Rules.{rules}
 use Rattle.tables.proofs.clock.clock_lent.Goals as goal
 
 pub returns-then-clock-lt6 : goal.returns-then-clock-lt6

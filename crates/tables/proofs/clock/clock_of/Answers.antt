@@ -1,7 +1,6 @@
 -- `clock_of` meets its contract: four cells.
 use mathlib.Core.Path.{refl}
 use Rattle.tables.specs.Clock.{clock_in}
-use borrow.Author.Rules.{rules}
 use Rattle.tables.proofs.clock.clock_of.Goals as goal
 
 pub returns : goal.returns

@@ -3,7 +3,6 @@ use mathlib.Core.Path.{refl}
 use Rattle.tables.specs.Stores.{put_clock}
 use native.Mathlib.Omega.{arith}
 use lib.ListN.{length-set}
-use borrow.Author.Rules.{rules}
 use Rattle.tables.proofs.clock.put_clock.Goals as goal
 
 pub returns : goal.returns

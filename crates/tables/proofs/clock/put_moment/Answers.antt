@@ -3,7 +3,6 @@ use mathlib.Core.Path.{refl}
 use Rattle.tables.specs.Stores.{put_moment}
 use native.Mathlib.Omega.{arith}
 use lib.ListN.{length-set}
-use borrow.Author.Rules.{rules}
 use Rattle.tables.proofs.clock.put_moment.Goals as goal
 
 pub returns : goal.returns

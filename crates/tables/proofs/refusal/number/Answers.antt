@@ -1,6 +1,5 @@
 -- `number` meets its contract: the variant taken decides.
 use mathlib.Core.Path.{◌≡◌, sym, ap}
-use borrow.Author.Rules.{rules}
 use Rattle.tables.specs.declared.refusal.Refusal.{Refusal}
 use Rattle.tables.specs.Refusals.{number_of}
 use Rattle.tables.proofs.refusal.number.Goals as goal

@@ -1,6 +1,5 @@
 -- `tidy::planned` meets its contract.
 use Rattle.tidying.proofs.TidyLaws.{plan-ticks, plan-is}
-use borrow.Author.Rules.{rules}
 use Rattle.tidying.proofs.tidy.planned.Goals as goal
 
 pub ticked-next-requires : goal.ticked-next-requires

@@ -1,6 +1,5 @@
 -- `tidy::put_less` meets its contract.
 use Rattle.tidying.proofs.MovedLaws.{put_one}
-use borrow.Author.Rules.{rules}
 use Rattle.tidying.proofs.tidy.put_less.Goals as goal
 
 pub returns : goal.returns

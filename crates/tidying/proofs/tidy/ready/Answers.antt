@@ -2,7 +2,6 @@
 use Rattle.tidying.proofs.StaleLaws.{datable-now, count-few, none-moved, is-stale, records-full, changes-full, slots-full}
 use Rattle.tidying.proofs.StaleLaws.{all-passed}
 use native.Mathlib.Omega.{arith}
-use borrow.Author.Rules.{rules}
 use Rattle.tidying.proofs.tidy.ready.Goals as goal
 
 pub overflow_add-wide : goal.overflow_add-wide

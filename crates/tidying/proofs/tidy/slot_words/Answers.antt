@@ -1,6 +1,5 @@
 -- `tidy::slot_words` meets its contract.
 use Rattle.tidying.proofs.SlotLaws.{slot-copied}
-use borrow.Author.Rules.{rules}
 use Rattle.tidying.proofs.tidy.slot_words.Goals as goal
 
 pub returns : goal.returns

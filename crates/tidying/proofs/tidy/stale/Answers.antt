@@ -1,6 +1,5 @@
 -- `tidy::stale` meets its contract.
 use Rattle.tidying.proofs.StaleLaws.{stale-head, stale-touched}
-use borrow.Author.Rules.{rules}
 use Rattle.tidying.proofs.tidy.stale.Goals as goal
 
 pub returns-then-s-head : goal.returns-then-s-head

@@ -1,6 +1,5 @@
 -- `tidy::tidy_in` meets its contract.
 use Rattle.tidying.proofs.TidyLaws.{tidyable, tidy-refused, tidy-served}
-use borrow.Author.Rules.{rules}
 use Rattle.tidying.proofs.tidy.tidy_in.Goals as goal
 
 pub tidy_at-requires : goal.tidy_at-requires

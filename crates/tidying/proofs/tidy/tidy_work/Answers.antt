@@ -1,7 +1,6 @@
 -- `tidy::tidy_work` meets its contract.
 use Rattle.tidying.proofs.TidyLaws.{version-fillable, moved-puttable, tidy-writes, tidy-done}
 use native.Mathlib.Omega.{arith}
-use borrow.Author.Rules.{rules}
 use Rattle.tidying.proofs.tidy.tidy_work.Goals as goal
 
 pub write_tidy-requires : goal.write_tidy-requires

@@ -1,10 +1,6 @@
 -- `tidy::touched` meets its contract. The invariant: what is asked of all the changes is asked of those from p on.
 -- The measure is what is left of them.
-use borrow.Author.Rules.{rules}
 use Rattle.tidying.proofs.StaleLaws.{touched_none, touched-row, touched-set, touched-past}
-use Rattle.tidying.specs.Tidy.{touched_in}
-use Prim.Native.Nat.{◌-◌}
-use mathlib.Core.Path.{◌≡◌, refl}
 use Rattle.tidying.proofs.tidy.touched.Goals as goal
 
 pub returns-then-get : goal.returns-then-get

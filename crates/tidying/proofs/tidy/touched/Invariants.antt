@@ -1,10 +1,8 @@
 -- `tidy::touched` meets its contract. The invariant: what is asked of all the changes is asked of those from p on.
 -- The measure is what is left of them.
-use borrow.Author.Rules.{rules}
-use Rattle.tidying.proofs.StaleLaws.{touched_none, touched-row, touched-set, touched-past}
 use Rattle.tidying.specs.Tidy.{touched_in}
 use Prim.Native.Nat.{◌-◌}
-use mathlib.Core.Path.{◌≡◌, refl}
+use mathlib.Core.Path.{◌≡◌}
 use Rattle.tidying.proofs.tidy.touched.Given as goal
 
 abbrev pub invariant-loop-p : goal.invariant-loop-p

@@ -1,6 +1,5 @@
 -- `tidy::write_counts` meets its contract.
 use Rattle.tidying.proofs.TidyLaws.{counts-written}
-use borrow.Author.Rules.{rules}
 use Rattle.tidying.proofs.tidy.write_counts.Goals as goal
 
 pub returns : goal.returns

@@ -1,12 +1,8 @@
 -- `tidy::write_moved` meets its contract. The outer invariant: the rows of the words before i are put. The inner one: whatever was there
 -- at first, those of word i before bit k are, too, and x is what is left of the word. The measures are what is left of both.
-use Prim.Native.Nat.{◌+◌, ◌-◌, ◌*◌, ◌≤◌, ◌<◌}
 use native.Mathlib.Omega.{arith}
 use borrow.Author.Rules.{rules}
-use Rattle.bits.specs.Rows.{rows_below}
-use Rattle.bits.specs.Words.{bit_at}
-use Rattle.tidying.specs.Tidy.{RowsPut}
-use Rattle.tidying.proofs.MovedLaws.{WordScan, Scanning, next, moved_none, scan-none, scan-end, scan-more, next-lt}
+use Rattle.tidying.proofs.MovedLaws.{moved_none, scan-none, scan-end, scan-more, next-lt}
 use Rattle.tidying.proofs.MovedLaws.{next-puttable, put-length, moved_all}
 use Rattle.tidying.proofs.tidy.write_moved.Goals as goal
 

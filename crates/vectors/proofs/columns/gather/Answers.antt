@@ -1,7 +1,6 @@
 -- `bits::columns::gather` meets its contract.
 use Rattle.bits.proofs.ColumnLaws.{front-words, gather_none, gather-all}
 use native.Mathlib.Omega.{arith}
-use borrow.Author.Rules.{rules}
 use Rattle.vectors.proofs.columns.gather.Goals as goal
 
 pub slice_bounds-clear-end-2 : goal.slice_bounds-clear-end-2

@@ -1,10 +1,6 @@
 -- `bits::columns::gather_rows` meets its contract. The invariant is what it needs, with k for `from`.
 -- The measure is what is left of the rows.
-use mathlib.Core.Path.{◌≡◌}
-use Prim.Native.Nat.{◌-◌}
 use borrow.Author.Rules.{rules}
-use lib.ListN.{length}
-use Rattle.bits.specs.Column.{Gatherable}
 use Rattle.bits.proofs.ColumnLaws.{gather-more, gather-end}
 use Rattle.vectors.proofs.columns.gather_rows.Goals as goal
 

@@ -2,10 +2,8 @@
 -- The measure is what is left of the rows.
 use mathlib.Core.Path.{◌≡◌}
 use Prim.Native.Nat.{◌-◌}
-use borrow.Author.Rules.{rules}
 use lib.ListN.{length}
 use Rattle.bits.specs.Column.{Gatherable}
-use Rattle.bits.proofs.ColumnLaws.{gather-more, gather-end}
 use Rattle.vectors.proofs.columns.gather_rows.Given as goal
 
 abbrev pub invariant-loop-k : goal.invariant-loop-k

@@ -1,12 +1,10 @@
 -- `bits::columns::set_columns` meets its contract. The invariant: the rows of the words before i are set.
 -- The measure is what is left of the column.
-use mathlib.Core.Path.{◌≡◌}
-use Prim.Native.Nat.{◌*◌, ◌/◌, ◌%◌, ◌-◌, ◌≤◌}
+use Prim.Native.Nat.{◌/◌, ◌%◌}
 use native.Mathlib.Omega.{arith}
 use borrow.Author.Rules.{rules}
-use lib.ListN.{length}
 use Rattle.bits.specs.Column.{column_bit}
-use Rattle.bits.proofs.ColumnLaws.{Grown, grown-none, word_more, words-end}
+use Rattle.bits.proofs.ColumnLaws.{grown-none, word_more, words-end}
 use Rattle.vectors.proofs.columns.set_columns.Goals as goal
 
 pub loop-i-init : goal.loop-i-init

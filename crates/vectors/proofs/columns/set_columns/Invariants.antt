@@ -2,11 +2,9 @@
 -- The measure is what is left of the column.
 use mathlib.Core.Path.{◌≡◌}
 use Prim.Native.Nat.{◌*◌, ◌/◌, ◌%◌, ◌-◌, ◌≤◌}
-use native.Mathlib.Omega.{arith}
-use borrow.Author.Rules.{rules}
 use lib.ListN.{length}
 use Rattle.bits.specs.Column.{column_bit}
-use Rattle.bits.proofs.ColumnLaws.{Grown, grown-none, word_more, words-end}
+use Rattle.bits.proofs.ColumnLaws.{Grown}
 use Rattle.vectors.proofs.columns.set_columns.Given as goal
 
 abbrev pub invariant-loop-i : goal.invariant-loop-i

@@ -1,10 +1,10 @@
 -- `bits::columns::set_word` meets its contract. The invariant: the rows of the values below v are set.
 -- The measure is what is left of the values.
-use Prim.Native.Nat.{◌-◌, ◌/◌, ◌≤◌}
+use Prim.Native.Nat.{◌/◌}
 use native.Mathlib.Omega.{arith}
 use borrow.Author.Rules.{rules}
 use Rattle.bits.specs.Column.{in_word}
-use Rattle.bits.proofs.ColumnLaws.{Grown, grown-none, vector-more, vectors-end}
+use Rattle.bits.proofs.ColumnLaws.{grown-none, vector-more, vectors-end}
 use Rattle.vectors.proofs.columns.set_word.Goals as goal
 
 pub loop-v-init : goal.loop-v-init

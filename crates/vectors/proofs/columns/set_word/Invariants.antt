@@ -1,10 +1,8 @@
 -- `bits::columns::set_word` meets its contract. The invariant: the rows of the values below v are set.
 -- The measure is what is left of the values.
 use Prim.Native.Nat.{◌-◌, ◌/◌, ◌≤◌}
-use native.Mathlib.Omega.{arith}
-use borrow.Author.Rules.{rules}
 use Rattle.bits.specs.Column.{in_word}
-use Rattle.bits.proofs.ColumnLaws.{Grown, grown-none, vector-more, vectors-end}
+use Rattle.bits.proofs.ColumnLaws.{Grown}
 use Rattle.vectors.proofs.columns.set_word.Given as goal
 
 abbrev pub invariant-loop-v : goal.invariant-loop-v

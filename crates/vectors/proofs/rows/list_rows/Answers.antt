@@ -1,8 +1,6 @@
 -- `bits::rows::list_rows` meets its contract: the rows of the words that were passed are listed.
-use Prim.Native.Nat.{◌-◌}
 use borrow.Author.Rules.{rules}
-use lib.ListN.{length}
-use Rattle.bits.proofs.WordRows.{Listed, listed-none, listed-room, listed-step, listed-end}
+use Rattle.bits.proofs.WordRows.{listed-none, listed-room, listed-step, listed-end}
 use Rattle.vectors.proofs.rows.list_rows.Goals as goal
 
 pub loop-i-init : goal.loop-i-init

@@ -1,8 +1,7 @@
 -- `bits::rows::list_rows` meets its contract: the rows of the words that were passed are listed.
 use Prim.Native.Nat.{◌-◌}
-use borrow.Author.Rules.{rules}
 use lib.ListN.{length}
-use Rattle.bits.proofs.WordRows.{Listed, listed-none, listed-room, listed-step, listed-end}
+use Rattle.bits.proofs.WordRows.{Listed}
 use Rattle.vectors.proofs.rows.list_rows.Given as goal
 
 abbrev pub invariant-loop-i : goal.invariant-loop-i

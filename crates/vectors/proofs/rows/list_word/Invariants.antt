@@ -1,9 +1,7 @@
 -- `bits::rows::list_word` meets its contract: what is stored of the rows, and what is still to come, is the whole.
-use native.Mathlib.Omega.{arith}
-use borrow.Author.Rules.{rules}
 use lib.ListN.{length}
 use Rattle.bits.specs.Rows.{word_rows}
-use Rattle.bits.proofs.WordRows.{Listing, listing_none, listing-lt, listing-room, listing-less, listing_step, listing-end}
+use Rattle.bits.proofs.WordRows.{Listing}
 use Rattle.vectors.proofs.rows.list_word.Given as goal
 
 abbrev pub invariant-loop-x : goal.invariant-loop-x

@@ -1,11 +1,7 @@
 -- `bits::vectors::clear` meets its contract. The invariant: the words before i are 0. The measure is what is left of the words.
-use mathlib.Core.Bool.{false}
-use Prim.Native.Nat.{◌-◌}
-use borrow.Author.Rules.{rules}
-use lib.ListN.{length}
-use Rattle.bits.specs.Vec.{vec, word_of}
+use Rattle.bits.specs.Vec.{vec}
 use Rattle.bits.proofs.VecLaws.{word_none}
-use Rattle.bits.proofs.TabLaws.{Filled, filled_none, filled_more, filled-all}
+use Rattle.bits.proofs.TabLaws.{filled_none, filled_more, filled-all}
 use Rattle.vectors.proofs.words.clear.Goals as goal
 
 pub loop-i-init : goal.loop-i-init

@@ -1,11 +1,10 @@
 -- `bits::vectors::copy` meets its contract. The invariant: the words before i are those of `src`. The measure is what is left of the words.
 use mathlib.Core.List.{List}
 use mathlib.Core.Path.{ap, ◌∙◌, sym}
-use Prim.Native.Nat.{ℕ, ◌-◌}
-use borrow.Author.Rules.{rules}
-use lib.ListN.{length, get_or}
+use Prim.Native.Nat.{ℕ}
+use lib.ListN.{get_or}
 use Rattle.bits.specs.Tab.{tab}
-use Rattle.bits.proofs.TabLaws.{tab-self, Filled, filled_none, filled_more, filled-all}
+use Rattle.bits.proofs.TabLaws.{tab-self, filled_none, filled_more, filled-all}
 use Rattle.vectors.proofs.words.copy.Goals as goal
 
 pub loop-i-init : goal.loop-i-init

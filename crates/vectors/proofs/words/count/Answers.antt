@@ -1,7 +1,7 @@
 -- `bits::vectors::count` meets its contract. The invariant: n is how many rows of the words before i are set. The measure is what
 -- is left of the words.
 use mathlib.Core.Path.{◌≡◌, ap, ◌∙◌, sym}
-use Prim.Native.Nat.{ℕ, ◌*◌, ◌+◌, ◌-◌, ◌≤◌}
+use Prim.Native.Nat.{ℕ, ◌*◌, ◌+◌, ◌≤◌}
 use native.Mathlib.Omega.{arith}
 use borrow.Author.Rules.{rules}
 use lib.ListN.{length, get_or}

@@ -1,14 +1,10 @@
 -- `bits::vectors::count` meets its contract. The invariant: n is how many rows of the words before i are set. The measure is what
 -- is left of the words.
-use mathlib.Core.Path.{◌≡◌, ap, ◌∙◌, sym}
-use Prim.Native.Nat.{ℕ, ◌*◌, ◌+◌, ◌-◌, ◌≤◌}
-use native.Mathlib.Omega.{arith}
-use borrow.Author.Rules.{rules}
-use lib.ListN.{length, get_or}
-use lib.Count.{ones, ones-le}
+use mathlib.Core.Path.{◌≡◌}
+use Prim.Native.Nat.{◌*◌, ◌-◌, ◌≤◌}
+use lib.ListN.{length}
 use Rattle.bits.specs.Words.{bit_at}
-use Rattle.bits.specs.Rows.{count_below, count_of}
-use Rattle.bits.proofs.RowLaws.{count-le, count_word}
+use Rattle.bits.specs.Rows.{count_below}
 use Rattle.vectors.proofs.words.count.Given as goal
 
 abbrev pub invariant-loop-i : goal.invariant-loop-i

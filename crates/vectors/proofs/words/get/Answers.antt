@@ -1,7 +1,6 @@
 -- `bits::vectors::get` meets its contract. Within the words the test is the definition of `bit_at`; past them no row is set.
 use mathlib.Core.Path.{refl, sym}
 use native.Mathlib.Omega.{arith}
-use borrow.Author.Rules.{rules}
 use Rattle.bits.specs.Bit.{bit}
 use Rattle.bits.specs.Words.{bit_at}
 use Rattle.bits.proofs.WordLaws.{bit_at-above}

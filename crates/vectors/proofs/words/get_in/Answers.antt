@@ -2,7 +2,6 @@
 use mathlib.Core.Path.{◌≡◌}
 use Prim.Native.Nat.{◌/◌, ◌%◌}
 use native.Mathlib.Omega.{arith}
-use borrow.Author.Rules.{rules}
 use Rattle.bits.specs.Bit.{bit}
 use Rattle.bits.specs.Words.{bit_at}
 use Rattle.vectors.proofs.words.get_in.Goals as goal

@@ -1,11 +1,9 @@
 -- `bits::vectors::merge` meets its contract. The invariant: the words before i are those of `merged_words`, the others stay.
 use Prim.Native.Nat.{◌-◌}
-use borrow.Author.Rules.{rules}
 use lib.Bits.{bit_or}
 use lib.ListN.{length, get_or}
-use Rattle.bits.specs.Words.{merged_words, xor_at}
-use Rattle.bits.proofs.TabLaws.{Filled, filled_none, filled-all}
-use Rattle.bits.proofs.WordLaws.{merged-more}
+use Rattle.bits.specs.Words.{xor_at}
+use Rattle.bits.proofs.TabLaws.{Filled}
 use Rattle.vectors.proofs.words.merge.Given as goal
 
 abbrev pub invariant-loop-i : goal.invariant-loop-i

@@ -1,10 +1,6 @@
 -- `bits::vectors::rest_of` meets its contract. The invariant: `all` is the OR of the words from `from` to j of the vector. The
 -- measure is what is left of the 32 words.
-use mathlib.Core.Path.{◌≡◌}
-use Prim.Native.Nat.{◌+◌, ◌-◌, ◌*◌, ◌≤◌}
 use borrow.Author.Rules.{rules}
-use lib.ListN.{get_or}
-use Rattle.bits.specs.OrWords.{or_from}
 use Rattle.bits.proofs.OrLaws.{from-none}
 use Rattle.bits.proofs.VectorLaws.{rest_more, rest_end}
 use Rattle.vectors.proofs.words.rest_of.Goals as goal

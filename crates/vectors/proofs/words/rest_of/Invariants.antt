@@ -2,11 +2,8 @@
 -- measure is what is left of the 32 words.
 use mathlib.Core.Path.{◌≡◌}
 use Prim.Native.Nat.{◌+◌, ◌-◌, ◌*◌, ◌≤◌}
-use borrow.Author.Rules.{rules}
 use lib.ListN.{get_or}
 use Rattle.bits.specs.OrWords.{or_from}
-use Rattle.bits.proofs.OrLaws.{from-none}
-use Rattle.bits.proofs.VectorLaws.{rest_more, rest_end}
 use Rattle.vectors.proofs.words.rest_of.Given as goal
 
 abbrev pub invariant-loop-j : goal.invariant-loop-j

@@ -1,5 +1,4 @@
 -- `bits::vectors::with_bit` meets its contract. `1 << k` is 2 ^ k, and each branch is the definition of `set_bit` or `clear_bit`.
-use borrow.Author.Rules.{rules}
 use Rattle.bits.specs.Bit.{set_bit, clear_bit}
 use Rattle.bits.proofs.BitLaws.{one_shl}
 use Rattle.vectors.proofs.words.with_bit.Goals as goal

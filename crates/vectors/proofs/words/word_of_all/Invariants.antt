@@ -1,13 +1,9 @@
 -- `bits::vectors::word_of_all` meets its contract. The invariant: `all` is the OR of word j of the first i vectors. The measure is
 -- what is left of the vectors.
-use mathlib.Core.Path.{◌≡◌, ap, ◌∙◌}
+use mathlib.Core.Path.{◌≡◌}
 use Prim.Native.Nat.{◌+◌, ◌-◌, ◌*◌, ◌≤◌}
-use native.Mathlib.Omega.{arith}
-use borrow.Author.Rules.{rules}
 use lib.ListN.{get_or}
 use Rattle.bits.specs.OrWords.{or_below}
-use Rattle.bits.proofs.OrLaws.{or-zero, or-more}
-use Rattle.bits.specs.Vectors.{word_of_all}
 use Rattle.vectors.proofs.words.word_of_all.Given as goal
 
 abbrev pub invariant-loop-i : goal.invariant-loop-i

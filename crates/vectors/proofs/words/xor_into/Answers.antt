@@ -1,12 +1,9 @@
 -- `bits::vectors::xor_into` meets its contract. The invariant: the words before i are those of `xor_words`. The measure is what is
 -- left of the words.
 use mathlib.Core.Path.{ap, ◌∙◌, sym}
-use Prim.Native.Nat.{◌-◌}
-use borrow.Author.Rules.{rules}
-use lib.ListN.{length}
 use Rattle.bits.specs.Words.{xor_words, xor_at}
 use Rattle.bits.specs.Tab.{tab}
-use Rattle.bits.proofs.TabLaws.{Filled, filled_none, filled_more, filled-all}
+use Rattle.bits.proofs.TabLaws.{filled_none, filled_more, filled-all}
 use Rattle.vectors.proofs.words.xor_into.Goals as goal
 
 pub loop-i-init : goal.loop-i-init

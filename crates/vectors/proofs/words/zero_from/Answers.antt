@@ -1,7 +1,7 @@
 -- `bits::vectors::zero_from` meets its contract. The invariant: `all` is the OR of the words from `from` to i. The measure is what
 -- is left of the words.
 use mathlib.Core.Path.{◌≡◌, ap, ◌∙◌}
-use Prim.Native.Nat.{ℕ, ◌-◌, ◌≤◌}
+use Prim.Native.Nat.{ℕ}
 use native.Mathlib.Omega.{arith}
 use borrow.Author.Rules.{rules}
 use lib.Dec.{eqb}

@@ -1,14 +1,9 @@
 -- `bits::vectors::zero_from` meets its contract. The invariant: `all` is the OR of the words from `from` to i. The measure is what
 -- is left of the words.
-use mathlib.Core.Path.{◌≡◌, ap, ◌∙◌}
-use Prim.Native.Nat.{ℕ, ◌-◌, ◌≤◌}
-use native.Mathlib.Omega.{arith}
-use borrow.Author.Rules.{rules}
-use lib.Dec.{eqb}
+use mathlib.Core.Path.{◌≡◌}
+use Prim.Native.Nat.{◌-◌, ◌≤◌}
 use lib.ListN.{length, get_or}
 use Rattle.bits.specs.OrWords.{or_from}
-use Rattle.bits.proofs.OrLaws.{from-none, from_more, from_all}
-use Rattle.bits.specs.Tail.{zeros_from}
 use Rattle.vectors.proofs.words.zero_from.Given as goal
 
 abbrev pub invariant-loop-i : goal.invariant-loop-i

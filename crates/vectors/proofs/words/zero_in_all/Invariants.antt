@@ -1,14 +1,9 @@
 -- `bits::vectors::zero_in_all` meets its contract. The invariant: `all` is the OR of the words from `from` on of the first i
 -- vectors. The measure is what is left of the vectors.
-use mathlib.Core.Path.{◌≡◌, ap, ◌∙◌}
-use Prim.Native.Nat.{ℕ, ◌-◌, ◌≤◌}
-use native.Mathlib.Omega.{arith}
-use borrow.Author.Rules.{rules}
-use lib.Bits.{bit_or}
-use lib.Dec.{eqb}
+use mathlib.Core.Path.{◌≡◌}
+use Prim.Native.Nat.{◌-◌, ◌≤◌}
 use Rattle.bits.specs.OrWords.{or_below}
-use Rattle.bits.proofs.OrLaws.{or-zero, or-more, or-all}
-use Rattle.bits.specs.Vectors.{rest_of, zeros_of_all}
+use Rattle.bits.specs.Vectors.{rest_of}
 use Rattle.vectors.proofs.words.zero_in_all.Given as goal
 
 abbrev pub invariant-loop-i : goal.invariant-loop-i
