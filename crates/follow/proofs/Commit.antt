@@ -34,7 +34,7 @@ use Rattle.tables.specs.Meaning.{entries, meaning, chain_at}
 use Rattle.tables.specs.Stores.{put_slot, put_head}
 use Rattle.tables.proofs.Means.{stamp-means, rows-means, changes-means, length-entries, values-means, slots-means, chain-means}
 use Rattle.tables.proofs.Stores.{freed-means, session-put, length-slot, length-head}
-use Rattle.tables.proofs.Facts.{whole, clock-limits}
+use Rattle.tables.proofs.Facts.{clock-limits}
 use Rattle.tables.proofs.Undamaged.{means-undamaged}
 use Rattle.outcomes.specs.Said.{numbers}
 use Rattle.outcomes.specs.Stores.{stores, put_changes, clock_cell, slot_cell, head_cell, word_stores}

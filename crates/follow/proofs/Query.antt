@@ -35,7 +35,7 @@ use Rattle.tables.proofs.Slots.{length-slot_words}
 use Rattle.tables.proofs.Tests.{and_both}
 use Rattle.history.specs.Version.{slot_seen}
 use Rattle.history.proofs.Meets.{seen-used, vector-meets}
-use Rattle.outcomes.specs.Said.{words, value}
+use Rattle.outcomes.specs.Said.{value}
 use Rattle.outcomes.specs.Query.{rows_seen, flips_seen, asked, query_of, picked_from}
 use Rattle.outcomes.specs.Span.{rows_of_span, listed_span, span_of}
 use Rattle.outcomes.specs.Outcome.{outcome}

@@ -3,15 +3,12 @@
 use Rattle.std.specs.Prelude.{◌≡◌, refl, Bool, true, false, not, cond, ◌&&◌, List, ℕ, zero, suc, ◌+◌, ◌-◌, ◌≤◌, ◌<◌, T, ltb, length, set, replicate}
 use Rattle.std.proofs.Common.{sym, ◌∙◌, ap, ⊎_elim, arith, add-one, lt-ltb, le-ltb, nltb→le, get_or-set_same, get_or-set_other}
 use Rattle.std.proofs.Math.ListN.{get_or-eq_default}
-use Rattle.std.proofs.lemmas.List.Edits.{sets}
 use Rattle.std.proofs.Math.Seq.{length-sets, set_out}
 use Rattle.std.proofs.Math.Facts.{and_yes, and_no}
 use Rattle.bits.proofs.Cases.{eq-cases, lt-cases}
 use Rattle.tables.specs.declared.session.Session.{Session}
-use Rattle.tables.specs.declared.counts.Stamp.{Stamp}
-use Rattle.tables.specs.declared.counts.Row.{Row}
-use Rattle.tables.specs.Sessions.{freed, begun, session_at}
-use Rattle.lent.specs.Places.{seat_at, put_at, freed_all, listed_back, opened_at, freed_at, all_freed, freed_from, left_freed}
+use Rattle.tables.specs.Sessions.{freed, session_at}
+use Rattle.lent.specs.Places.{seat_at, put_at, freed_all, listed_back, freed_at, all_freed, freed_from, left_freed}
 
 -- ---- a place that the slice has, and one that it has not
 cond_yes : {X : Type 0} (t : Bool) (a b : X) → T t → cond t a b ≡ a

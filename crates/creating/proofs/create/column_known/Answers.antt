@@ -1,10 +1,7 @@
 -- `create::column_known` meets its contract. The invariant: `ok` is the test of the bytes before r. The measure is what is left of
 -- the column.
 use borrow.Author.Rules.{rules}
-use Rattle.creating.proofs.CreateLaws.{known_to, known-none, known_more, known-all}
-use lib.ListN.{length}
-use Prim.Native.Nat.{◌-◌, ◌≤◌}
-use mathlib.Core.Path.{◌≡◌}
+use Rattle.creating.proofs.CreateLaws.{known-none, known_more, known-all}
 use Rattle.creating.proofs.create.column_known.Goals as goal
 
 pub loop-r-init : goal.loop-r-init

@@ -1,7 +1,6 @@
 -- `create::column_known` meets its contract. The invariant: `ok` is the test of the bytes before r. The measure is what is left of
 -- the column.
-use borrow.Author.Rules.{rules}
-use Rattle.creating.proofs.CreateLaws.{known_to, known-none, known_more, known-all}
+use Rattle.creating.proofs.CreateLaws.{known_to}
 use lib.ListN.{length}
 use Prim.Native.Nat.{◌-◌, ◌≤◌}
 use mathlib.Core.Path.{◌≡◌}

@@ -1,6 +1,5 @@
 -- `create::column_refused` meets its contract.
 use Rattle.creating.proofs.CreateLaws.{bad-none, bad-many, bad-long, bad-bytes}
-use borrow.Author.Rules.{rules}
 use Rattle.creating.proofs.create.column_refused.Goals as goal
 
 pub returns-then-values-eq0 : goal.returns-then-values-eq0

@@ -1,6 +1,5 @@
 -- `create::create_work` meets its contract.
 use Rattle.creating.proofs.CreateLaws.{front_length, front-needs, create-made}
-use borrow.Author.Rules.{rules}
 use Rattle.creating.proofs.create.create_work.Goals as goal
 
 pub slice_bounds-write_columns-end-2 : goal.slice_bounds-write_columns-end-2

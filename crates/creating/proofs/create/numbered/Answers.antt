@@ -1,13 +1,8 @@
 -- `create::numbered` meets its contract. Both loops fill by `below`: the cells before i are done, from whatever was there before the first.
 -- The measures are what is left of the values, and of the n.
-use mathlib.Core.Path.{◌≡◌}
-use mathlib.Core.List.{List}
-use Prim.Native.Nat.{ℕ, ◌-◌, ◌≤◌}
 use native.Mathlib.Omega.{arith}
 use borrow.Author.Rules.{rules}
-use lib.ListN.{length}
-use Rattle.bits.proofs.TabLaws.{Filled, filled_none}
-use Rattle.outcomes.specs.Calls.{below}
+use Rattle.bits.proofs.TabLaws.{filled_none}
 use Rattle.creating.proofs.CreateLaws.{number_more, zero_more, numbered-to}
 use Rattle.creating.proofs.create.numbered.Goals as goal
 

@@ -3,12 +3,9 @@
 use mathlib.Core.Path.{◌≡◌}
 use mathlib.Core.List.{List}
 use Prim.Native.Nat.{ℕ, ◌-◌, ◌≤◌}
-use native.Mathlib.Omega.{arith}
-use borrow.Author.Rules.{rules}
 use lib.ListN.{length}
-use Rattle.bits.proofs.TabLaws.{Filled, filled_none}
+use Rattle.bits.proofs.TabLaws.{Filled}
 use Rattle.outcomes.specs.Calls.{below}
-use Rattle.creating.proofs.CreateLaws.{number_more, zero_more, numbered-to}
 use Rattle.creating.proofs.create.numbered.Given as goal
 
 abbrev pub invariant-loop-i : goal.invariant-loop-i

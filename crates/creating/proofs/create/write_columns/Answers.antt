@@ -1,6 +1,5 @@
 -- `create::write_columns` meets its contract.
 use Rattle.creating.proofs.CreateLaws.{columns-written}
-use borrow.Author.Rules.{rules}
 use Rattle.creating.proofs.create.write_columns.Goals as goal
 
 pub returns : goal.returns

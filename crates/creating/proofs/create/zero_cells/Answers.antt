@@ -1,5 +1,4 @@
 -- `create::zero_cells` meets its contract. Cells numbered by no value are zeros.
-use borrow.Author.Rules.{rules}
 use Rattle.creating.proofs.CreateLaws.{zeros-made}
 use Rattle.creating.proofs.create.zero_cells.Goals as goal
 

@@ -1,6 +1,5 @@
 -- `history::version_of` meets its contract.
 use Rattle.history.proofs.VersionLaws.{seen-is, seen_low}
-use borrow.Author.Rules.{rules}
 use Rattle.history.proofs.chain.version_of.Goals as goal
 
 pub returns : goal.returns

@@ -1,11 +1,9 @@
 -- `history::block_names` meets its contract. The invariant: what the changes so far name.
 use mathlib.Core.Path.{◌≡◌}
 use Prim.Native.Nat.{◌+◌, ◌-◌, ◌≤◌}
-use native.Mathlib.Omega.{arith}
 use Rattle.rules.specs.Log.{names}
 use Rattle.tables.specs.Meaning.{change_at}
 use Rattle.tables.specs.Stretch.{stretch}
-use Rattle.history.proofs.LastLaws.{names-start, names-fold, names-all}
 use Rattle.history.proofs.changes.block_names.Given as goal
 
 abbrev pub invariant-loop-p : goal.invariant-loop-p

@@ -1,9 +1,6 @@
 -- `history::blocks_before` meets its contract. The invariant: what names the row last up to `to` does so up to e.
-use mathlib.Core.Path.{◌≡◌, refl}
-use Prim.Native.Nat.{◌≤◌}
+use mathlib.Core.Path.{refl}
 use native.Mathlib.Omega.{arith}
-use borrow.Author.Rules.{rules}
-use Rattle.history.specs.Last.{last_place}
 use Rattle.history.proofs.LastLaws.{block-past}
 use Rattle.history.proofs.changes.blocks_before.Goals as goal
 

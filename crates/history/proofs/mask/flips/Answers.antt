@@ -1,10 +1,6 @@
 -- `history::flips` meets its contract. The invariant: the mask is what the changes so far flip.
-use mathlib.Core.Path.{◌≡◌}
-use Prim.Native.Nat.{◌-◌, ◌≤◌}
 use native.Mathlib.Omega.{arith}
 use borrow.Author.Rules.{rules}
-use Rattle.bits.specs.Vec.{vec}
-use Rattle.history.specs.Flips.{flipped_in}
 use Rattle.history.proofs.LastLaws.{mask-none, mark-row, mask-more, mask-all}
 use Rattle.history.proofs.mask.flips.Goals as goal
 

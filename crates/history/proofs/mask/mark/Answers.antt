@@ -1,6 +1,5 @@
 -- `history::mark` meets its contract.
 use Rattle.history.proofs.LastLaws.{mark-is}
-use borrow.Author.Rules.{rules}
 use Rattle.history.proofs.mask.mark.Goals as goal
 
 pub returns : goal.returns

@@ -1,5 +1,4 @@
 -- `history::flipped_since` meets its contract.
-use borrow.Author.Rules.{rules}
 use Rattle.history.proofs.ReadLaws.{since-is}
 use Rattle.history.proofs.read.flipped_since.Goals as goal
 

@@ -2,10 +2,7 @@
 use mathlib.Core.Path.{◌≡◌}
 use mathlib.Core.Option.{none}
 use Prim.Native.Nat.{◌-◌, ◌≤◌}
-use native.Mathlib.Omega.{arith}
-use borrow.Author.Rules.{rules}
 use Rattle.history.specs.Read.{read_after}
-use Rattle.history.proofs.ReadLaws.{read-start, value-based, read_here, read_past, read_none}
 use Rattle.history.proofs.read.read_after.Given as goal
 
 abbrev pub invariant-loop-v : goal.invariant-loop-v

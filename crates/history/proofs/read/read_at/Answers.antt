@@ -1,6 +1,5 @@
 -- `history::read_at` meets its contract.
 use Rattle.history.proofs.ReadLaws.{read_is}
-use borrow.Author.Rules.{rules}
 use Rattle.history.proofs.read.read_at.Goals as goal
 
 pub returns : goal.returns

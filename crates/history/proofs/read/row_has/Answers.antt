@@ -1,6 +1,5 @@
 -- `history::row_has` meets its contract.
 use Rattle.history.proofs.ReadLaws.{has-is}
-use borrow.Author.Rules.{rules}
 use Rattle.history.proofs.read.row_has.Goals as goal
 
 pub returns : goal.returns

@@ -1,10 +1,6 @@
 -- `history::span_at` meets its contract. The invariant: the rows that the query of one of the values so far shows.
-use mathlib.Core.Path.{◌≡◌, sym}
-use Prim.Native.Nat.{◌+◌, ◌-◌, ◌≤◌}
+use mathlib.Core.Path.{sym}
 use native.Mathlib.Omega.{arith}
-use Rattle.bits.specs.Any.{any_from}
-use Rattle.bits.specs.Vec.{vec}
-use Rattle.history.specs.Query.{queried_at}
 use Rattle.history.proofs.SpanLaws.{value-ready, value-next, vec-long, values-none, values-more, values-all}
 use Rattle.history.proofs.span.span_at.Goals as goal
 

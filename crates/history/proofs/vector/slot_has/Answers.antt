@@ -1,6 +1,5 @@
 -- `history::slot_has` meets its contract.
 use Rattle.history.proofs.QueryLaws.{slot-bit}
-use borrow.Author.Rules.{rules}
 use Rattle.history.proofs.vector.slot_has.Goals as goal
 
 pub returns : goal.returns

@@ -2,7 +2,6 @@
 use mathlib.Core.Path.{sym, ◌∙◌}
 use lib.Seq.{length-take-le}
 use Rattle.history.proofs.QueryLaws.{turn-length, turned}
-use borrow.Author.Rules.{rules}
 use Rattle.history.proofs.vector.turn_over.Goals as goal
 
 pub slice_bounds-xor_into-end-2 : goal.slice_bounds-xor_into-end-2

@@ -1,7 +1,6 @@
 -- `cores::delete_at` meets its contract: by `delete-wide`, the call of the narrowed row is the call of the row.
 use mathlib.Core.Path.{◌∙◌}
 use Rattle.outcomes.proofs.NarrowLaws.{delete-wide}
-use borrow.Author.Rules.{rules}
 use Rattle.index.proofs.cores.delete_at.Goals as goal
 
 pub returns : goal.returns

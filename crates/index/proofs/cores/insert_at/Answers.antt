@@ -1,7 +1,6 @@
 -- `cores::insert_at` meets its contract.
 use mathlib.Core.Path.{◌∙◌}
 use Rattle.outcomes.proofs.NarrowLaws.{insert-wide}
-use borrow.Author.Rules.{rules}
 use Rattle.index.proofs.cores.insert_at.Goals as goal
 
 pub returns : goal.returns

@@ -1,7 +1,6 @@
 -- `cores::query_at` meets its contract.
 use mathlib.Core.Path.{◌∙◌}
 use Rattle.outcomes.proofs.NarrowLaws.{query-wide}
-use borrow.Author.Rules.{rules}
 use Rattle.index.proofs.cores.query_at.Goals as goal
 
 pub returns : goal.returns

@@ -1,7 +1,6 @@
 -- `cores::read_at` meets its contract.
 use mathlib.Core.Path.{◌∙◌}
 use Rattle.outcomes.proofs.NarrowLaws.{read_wide}
-use borrow.Author.Rules.{rules}
 use Rattle.index.proofs.cores.read_at.Goals as goal
 
 pub returns : goal.returns

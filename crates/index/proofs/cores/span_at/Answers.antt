@@ -1,7 +1,6 @@
 -- `cores::span_at` meets its contract.
 use mathlib.Core.Path.{◌∙◌}
 use Rattle.outcomes.proofs.NarrowLaws.{span-wide}
-use borrow.Author.Rules.{rules}
 use Rattle.index.proofs.cores.span_at.Goals as goal
 
 pub returns : goal.returns

@@ -1,7 +1,6 @@
 -- `cores::tidy_at` meets its contract.
 use mathlib.Core.Path.{◌∙◌}
 use Rattle.outcomes.proofs.NarrowLaws.{tidy-wide}
-use borrow.Author.Rules.{rules}
 use Rattle.index.proofs.cores.tidy_at.Goals as goal
 
 pub returns : goal.returns

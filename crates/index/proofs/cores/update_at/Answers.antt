@@ -1,7 +1,6 @@
 -- `cores::update_at` meets its contract.
 use mathlib.Core.Path.{◌∙◌}
 use Rattle.outcomes.proofs.NarrowLaws.{update-wide}
-use borrow.Author.Rules.{rules}
 use Rattle.index.proofs.cores.update_at.Goals as goal
 
 pub returns : goal.returns

@@ -1,6 +1,5 @@
 -- `in_numbers::numbers` meets its contract.
 use Rattle.kerenvuf.proofs.AnswerLaws.{says-no, says-as, says-listed}
-use borrow.Author.Rules.{rules}
 use Rattle.kerenvuf.proofs.in_numbers.numbers.Goals as goal
 
 pub returns-in-No : goal.returns-in-No

@@ -1,6 +1,5 @@
 -- `in_numbers::place_number` meets its contract.
 use Rattle.kerenvuf.proofs.AnswerLaws.{place-past, place-slot}
-use borrow.Author.Rules.{rules}
 use Rattle.kerenvuf.proofs.in_numbers.place_number.Goals as goal
 
 pub returns-then-i-ge96 : goal.returns-then-i-ge96

@@ -1,6 +1,5 @@
 -- `in_numbers::read_numbers` meets its contract.
 use Rattle.kerenvuf.proofs.AnswerLaws.{read_as}
-use borrow.Author.Rules.{rules}
 use Rattle.kerenvuf.proofs.in_numbers.read_numbers.Goals as goal
 
 pub returns-in-Holds : goal.returns-in-Holds

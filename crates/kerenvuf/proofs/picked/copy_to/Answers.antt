@@ -1,7 +1,6 @@
 -- `picked::copy_to` meets its contract.
 use lib.Seq.{length-take-le}
 use Rattle.kerenvuf.proofs.PickedLaws.{no_part, no_room, same-room, copied-over}
-use borrow.Author.Rules.{rules}
 use Rattle.kerenvuf.proofs.picked.copy_to.Goals as goal
 
 pub returns-then-part-ne32 : goal.returns-then-part-ne32

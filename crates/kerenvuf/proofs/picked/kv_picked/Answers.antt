@@ -1,6 +1,5 @@
 -- `picked::kv_picked` meets its contract.
 use Rattle.kerenvuf.proofs.PickedLaws.{picked-to}
-use borrow.Author.Rules.{rules}
 use Rattle.kerenvuf.proofs.picked.kv_picked.Goals as goal
 
 pub returns : goal.returns

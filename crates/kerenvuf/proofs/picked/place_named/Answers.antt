@@ -1,6 +1,5 @@
 -- `picked::place_named` meets its contract.
 use Rattle.kerenvuf.proofs.PickedLaws.{named-scratch, named-slot}
-use borrow.Author.Rules.{rules}
 use Rattle.kerenvuf.proofs.picked.place_named.Goals as goal
 
 pub returns-then-place-eq0 : goal.returns-then-place-eq0

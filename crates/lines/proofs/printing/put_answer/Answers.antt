@@ -1,5 +1,4 @@
 -- `printing::put_answer` meets its contract.
-use borrow.Author.Rules.{rules}
 use Rattle.lines.proofs.AnswerLaws.{queried-few, queried-fits, put_refused, put_count, put-at, put-read, put-listed}
 use Rattle.lines.proofs.printing.put_answer.Goals as goal
 

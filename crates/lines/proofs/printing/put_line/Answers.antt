@@ -1,5 +1,4 @@
 -- `printing::put_line` meets its contract.
-use borrow.Author.Rules.{rules}
 use Rattle.lines.proofs.AnswerLaws.{put-answered}
 use Rattle.lines.proofs.printing.put_line.Goals as goal
 

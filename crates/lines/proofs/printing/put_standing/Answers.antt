@@ -1,5 +1,4 @@
 -- `printing::put_standing` meets its contract.
-use borrow.Author.Rules.{rules}
 use Rattle.lines.proofs.AnswerLaws.{put_holds, put-none}
 use Rattle.lines.proofs.printing.put_standing.Goals as goal
 

@@ -1,5 +1,4 @@
 -- `sessions::all_free` meets its contract.
-use borrow.Author.Rules.{rules}
 use Rattle.lines.proofs.TurnLaws.{free-each}
 use Rattle.lines.proofs.sessions.all_free.Goals as goal
 

@@ -1,5 +1,4 @@
 -- `turns::accepted` meets its contract.
-use borrow.Author.Rules.{rules}
 use Rattle.lines.proofs.TurnLaws.{accepts-no, accepts-count, accepts-at, accepts-read, accepts-listed}
 use Rattle.lines.proofs.turns.accepted.Goals as goal
 

@@ -1,6 +1,5 @@
 -- `turns::created` meets its contract.
 use mathlib.Core.Path.{refl, ◌∙◌}
-use borrow.Author.Rules.{rules}
 use Rattle.lines.proofs.turns.created.Goals as goal
 
 pub returns : goal.returns
