@@ -1,5 +1,4 @@
-// A watch on one byte of those that go by. The language has no values for proofs alone, and no contract can name what the system was handed
-// or gave: so the code that hands bytes over or is given them lets a watch see them, and contracts hold whichever byte is watched. It costs
+// A watch on one byte of those that go by. No contract can name what the system was handed or gave, and the program keeps none of it: so the code that hands bytes over or is given them lets a watch see them, and contracts hold whichever byte is watched. It costs
 // two comparisons a piece.
 ghost use Rattle.std.specs.Prelude.{◌≡◌, ◌≤◌, length, take};
 ghost use Rattle.ends.specs.Watch as watching;

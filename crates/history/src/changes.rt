@@ -1,4 +1,5 @@
-// The last change that names a row: the search begins at the newest and goes back, in blocks of 64, to the first one that does.
+// The last change that names a row: the search begins at the newest and goes back, in blocks of 64, to the first one that does; and whether
+// any does.
 ghost use Rattle.std.specs.Prelude.{◌≡◌, ◌+◌, ◌≤◌, length};
 ghost use Rattle.rules.specs.Log.{names};
 ghost use Rattle.tables.specs.Meaning.{change_at};
