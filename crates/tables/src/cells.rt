@@ -18,7 +18,7 @@ pub fn slot_link(slots: &[u32], i: usize) -> usize
     requires { (i < 96) × (288 ≤ length slots.now) }
     ensures { result ≡ slot_link slots.now i }
 {
-    bits::wide(slots[192 + i])
+    slots[192 + i] as usize
 }
 
 // The slot that the head of v names.
@@ -26,8 +26,7 @@ pub fn head_of(heads: &[u32], v: Value) -> usize
     requires { (v.0 < 32) × (32 ≤ length heads.now) }
     ensures { result ≡ head_of heads.now v.0 }
 {
-    let i = bits::wide(v.0);
-    bits::wide(heads[i])
+    heads[v.0 as usize] as usize
 }
 
 // Where the changes of records 1 to s end.
@@ -35,11 +34,10 @@ pub fn end_at(log: &[u32], s: Stamp) -> usize
     requires { (s.0 ≤ 512) × (2048 ≤ length log.now) }
     ensures { result ≡ end_at log.now s.0 }
 {
-    let k = bits::wide(s.0);
-    if k == 0 {
+    if s.0 == 0 {
         return 0;
     }
-    bits::wide(log[1535 + k])
+    log[1535 + s.0 as usize] as usize
 }
 
 // The row count at stamp s.
@@ -47,11 +45,10 @@ pub fn rows_at(log: &[u32], first: Row, s: Stamp) -> Row
     requires { (s.0 ≤ 512) × (2048 ≤ length log.now) }
     ensures { result.0 ≡ rows_in_log first.0 log.now s.0 }
 {
-    let k = bits::wide(s.0);
-    if k == 0 {
+    if s.0 == 0 {
         return first;
     }
-    Row(log[1023 + k])
+    Row(log[1023 + s.0 as usize])
 }
 
 // The row of change p.
@@ -85,8 +82,7 @@ pub fn put_head(heads: &mut [u32], v: Value, i: u32)
     requires { (v.0 < 32) × (32 ≤ length heads.old) }
     ensures { heads.new ≡ put_head heads.old v.0 i }
 {
-    let at = bits::wide(v.0);
-    heads[at] = i;
+    heads[v.0 as usize] = i;
 }
 
 // The record of a stamp gets that stamp, its kind, its row count and the end of its changes.
@@ -94,7 +90,7 @@ pub fn put_record(log: &mut [u32], stamp: Stamp, kind: u32, rows: Row, end: u32)
     requires { (0 < stamp.0) × (stamp.0 ≤ 512) × (2048 ≤ length log.old) }
     ensures { log.new ≡ put_record log.old (stamp.0 - 1) kind rows.0 end }
 {
-    let k = bits::wide(stamp.0 - 1);
+    let k = (stamp.0 - 1) as usize;
     log[k] = stamp.0;
     log[512 + k] = kind;
     log[1024 + k] = rows.0;

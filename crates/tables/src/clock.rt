@@ -64,14 +64,10 @@ pub fn advanced(c: Clock, rows: Row) -> Clock
     requires { c.stamp.0 < 4294967295 }
     ensures { result ≡ later c rows }
 {
-    let values = c.values;
-    let first = c.first;
-    let stamp = c.stamp;
     Clock {
-        values: values,
-        first: first,
-        stamp: Stamp(stamp.0 + 1),
-        rows: rows,
+        stamp: Stamp(c.stamp.0 + 1),
+        rows,
+        ..c
     }
 }
 
@@ -81,14 +77,10 @@ pub fn put_clock(clock: &mut [u32], c: Clock, slots: u32, changes: u32)
     ensures { clock.new ≡ put_clock clock.old
         c.values.0 c.first.0 c.stamp.0 c.rows.0 slots changes }
 {
-    let values = c.values;
-    let first = c.first;
-    let stamp = c.stamp;
-    let rows = c.rows;
-    clock[0] = values.0;
-    clock[1] = first.0;
-    clock[2] = stamp.0;
-    clock[3] = rows.0;
+    clock[0] = c.values.0;
+    clock[1] = c.first.0;
+    clock[2] = c.stamp.0;
+    clock[3] = c.rows.0;
     clock[4] = slots;
     clock[5] = changes;
 }
@@ -98,10 +90,8 @@ pub fn put_moment(clock: &mut [u32], c: Clock)
     requires { 6 ≤ length clock.old }
     ensures { clock.new ≡ put_moment clock.old c.stamp.0 c.rows.0 }
 {
-    let stamp = c.stamp;
-    let rows = c.rows;
-    clock[2] = stamp.0;
-    clock[3] = rows.0;
+    clock[2] = c.stamp.0;
+    clock[3] = c.rows.0;
 }
 
 // The slots in use are written.

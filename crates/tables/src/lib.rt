@@ -6,6 +6,7 @@ mod cells;
 mod clock;
 mod counts;
 mod limits;
+mod number_tables;
 mod refusal;
 mod session;
 
@@ -22,5 +23,6 @@ pub use limits::{
     CHANGE_CELLS, HEAD_CELLS, LOG_CELLS, MAX_CHANGES, MAX_ENTRIES, MAX_RECORDS, MAX_ROWS,
     MAX_SESSIONS, MAX_SLOTS, MAX_VALUES, SLOT_CELLS, SLOT_WORDS, VECTOR_WORDS,
 };
-pub use refusal::{Refusal, number};
+pub use number_tables::{Kind, NumberTables};
+pub use refusal::Refusal;
 pub use session::{NEW, Session, free_session, opened_session, with_entry};

@@ -2,57 +2,37 @@
 ghost use Rattle.std.specs.Prelude.{◌≡◌};
 ghost use Rattle.tables.specs.Refusals.{number_of};
 
-// The reasons, in the order of their numbers.
-#[derive(Clone, Copy)]
+// The reasons, each with its number.
+#[derive(Clone, Copy, Debug, PartialEq, Eq)]
 pub enum Refusal {
-    NoRoom,
-    Damaged,
-    BadColumn,
-    NoSession,
-    NotOpen,
-    NoValue,
-    NoRow,
-    RowAbsent,
-    ListFull,
-    ShortScratch,
-    ListEmpty,
-    Conflict,
-    NothingToMove,
-    Stale,
-    RowsFull,
-    RecordsFull,
-    ChangesFull,
-    SlotsFull,
-    Unreadable,
-    Backward,
-    ShortList,
+    NoRoom = 1,
+    Damaged = 2,
+    BadColumn = 3,
+    NoSession = 4,
+    NotOpen = 5,
+    NoValue = 6,
+    NoRow = 7,
+    RowAbsent = 8,
+    ListFull = 9,
+    ShortScratch = 10,
+    ListEmpty = 11,
+    Conflict = 12,
+    NothingToMove = 13,
+    Stale = 14,
+    RowsFull = 15,
+    RecordsFull = 16,
+    ChangesFull = 17,
+    SlotsFull = 18,
+    Unreadable = 19,
+    Backward = 20,
+    ShortList = 21,
 }
 
 // The number of a reason.
-pub fn number(why: Refusal) -> u32
-    ensures { result ≡ number_of why }
-{
-    match why {
-        Refusal::NoRoom => 1,
-        Refusal::Damaged => 2,
-        Refusal::BadColumn => 3,
-        Refusal::NoSession => 4,
-        Refusal::NotOpen => 5,
-        Refusal::NoValue => 6,
-        Refusal::NoRow => 7,
-        Refusal::RowAbsent => 8,
-        Refusal::ListFull => 9,
-        Refusal::ShortScratch => 10,
-        Refusal::ListEmpty => 11,
-        Refusal::Conflict => 12,
-        Refusal::NothingToMove => 13,
-        Refusal::Stale => 14,
-        Refusal::RowsFull => 15,
-        Refusal::RecordsFull => 16,
-        Refusal::ChangesFull => 17,
-        Refusal::SlotsFull => 18,
-        Refusal::Unreadable => 19,
-        Refusal::Backward => 20,
-        Refusal::ShortList => 21,
+impl From<Refusal> for u32 {
+    ghost from_gives = { λ why r. r ≡ number_of why };
+
+    fn from(why: Refusal) -> u32 {
+        why as u32
     }
 }

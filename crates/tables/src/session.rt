@@ -40,8 +40,8 @@ pub fn opened_session(start: Stamp, rows: Row) -> Session
 {
     Session {
         live: 1,
-        start: start,
-        rows: rows,
+        start,
+        rows,
         count: 0,
         at: [0; 32],
         to: [0; 32],
