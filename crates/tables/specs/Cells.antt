@@ -1,5 +1,5 @@
 -- Where each number lies: the lent tables as one record, and the cells of each by name.
-use Rattle.std.specs.Prelude.{List, ℕ, zero, suc, ◌+◌, ◌*◌, get_or, take, drop}
+use Rattle.std.specs.Prelude.{List, ℕ, zero, suc, ◌+◌, ◌*◌, get_or, take, drop, Option, Some, None}
 use Rattle.tables.specs.declared.session.Session.{Session}
 
 -- the lent tables; "versions" of document 01 is slots and words together
@@ -44,6 +44,11 @@ slot_stamp slots i = get_or slots (96 + i) 0
 
 abbrev pub slot_link : List ℕ → ℕ → ℕ
 slot_link slots i = get_or slots (192 + i) 0
+
+-- the number of a link: 0 for none, else one more than the slot's
+abbrev pub link_of : Option ℕ → ℕ
+link_of None = 0
+link_of (Some i) = suc i
 
 unfoldable pub slot_words : List ℕ → ℕ → List ℕ
 slot_words words i = take 32 (drop (32 * i) words)

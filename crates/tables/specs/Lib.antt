@@ -1,6 +1,7 @@
 pub mod Cells
 pub mod Clock
 pub mod Sessions
+pub mod Shown
 pub mod Refusals
 pub mod Stores
 pub mod Stretch

@@ -1,6 +1,6 @@
 // Slots, heads, records and changes: where each number lies. The tables are kept by column, so that no index needs a product.
 ghost use Rattle.std.specs.Prelude.{◌≡◌, ◌+◌, ◌-◌, ◌<◌, ◌≤◌, length, set};
-ghost use Rattle.tables.specs.Cells.{slot_stamp, slot_link, head_of, end_at, rows_in_log, change_row, change_set};
+ghost use Rattle.tables.specs.Cells.{slot_stamp, slot_link, link_of, head_of, end_at, rows_in_log, change_row, change_set};
 ghost use Rattle.tables.specs.Stores.{put_slot, put_head, put_record, put_change};
 
 use crate::counts::{Row, Stamp, Value};
@@ -13,12 +13,15 @@ pub fn slot_stamp(slots: &[u32], i: usize) -> Stamp
     Stamp(slots[96 + i])
 }
 
-// The link of slot i: 0 for none, else one more than the number of the slot before it.
-pub fn slot_link(slots: &[u32], i: usize) -> usize
+// The slot before slot i: the one that its link names, where it has one.
+pub fn slot_link(slots: &[u32], i: usize) -> Option<usize>
     requires { (i < 96) × (288 ≤ length slots.now) }
-    ensures { result ≡ slot_link slots.now i }
+    ensures { link_of result ≡ slot_link slots.now i }
 {
-    slots[192 + i] as usize
+    match slots[192 + i] {
+        0 => None,
+        n => Some(n as usize - 1),
+    }
 }
 
 // The slot that the head of v names.
