@@ -25,39 +25,10 @@ first_slot slots i n e = ap (λ (x : ℕ). eqb (get_or slots i 0) x && eqb (get_
 
 -- ---- a link
 
--- four tests: the first two hold, one before all
-two-hold : (a b c d : Bool) → a ≡ true → b ≡ true → c && d ≡ a && b && c && d
-two-hold a b c d p q = sym (ap₂ (λ (x y : Bool). x && y && c && d) p q)
-
+-- one test before four
 one-before : (x a b c d : Bool) → x && (a && b && c && d) ≡ x && a && b && c && d
 one-before true a b c d = refl
 one-before false a b c d = refl
-
-module _ (slots : List ℕ) (i link : ℕ) (e : link ≡ slot_link slots i) where
-  abbrev same : Bool
-  same = eqb (slot_value slots (slot_link slots i - 1)) (slot_value slots i)
-
-  abbrev older : Bool
-  older = ltb (slot_stamp slots (slot_link slots i - 1)) (slot_stamp slots i)
-
-  -- none
-  pub no-link : link ≡ 0 → false ≡ link_fits slots i
-  unfolding link_fits
-  no-link z = sym (ap (λ (t : Bool). not t && leb (slot_link slots i) i && same && older) (eq-eqb (slot_link slots i) 0 (sym e ∙ z)))
-
-  -- one that does not lead to an earlier slot
-  pub late-link : i < link → false ≡ link_fits slots i
-  unfolding link_fits
-  late-link h = not_so (link_fits slots i) (λ z. let l : slot_link slots i ≤ i = search told in omega arith)
-
-  -- one that does
-  pub early-link : (link ≡ 0 → ⊥) → link ≤ i
-      → eqb (get_or slots (link - 1) 0) (get_or slots i 0) && ltb (get_or slots (96 + (link - 1)) 0) (get_or slots (96 + i) 0) ≡ link_fits slots i
-  unfolding link_fits
-  early-link n h =
-      ap (λ (x : ℕ). eqb (slot_value slots (x - 1)) (slot_value slots i) && ltb (slot_stamp slots (x - 1)) (slot_stamp slots i)) e
-      ∙ two-hold (not (eqb (slot_link slots i) 0)) (leb (slot_link slots i) i) same older
-      (ap not (ne_eqb (slot_link slots i) 0 (λ z. n (e ∙ z)))) (le-leb (slot_link slots i) i (omega arith))
 
 -- a later slot: its value and its stamp, and its link
 pub later-slot : (values last : ℕ) (slots : List ℕ) (i : ℕ) (b : Bool) → b ≡ link_fits slots i

@@ -4,34 +4,19 @@ ghost use Rattle.tables.specs.Room.{Roomy};
 ghost use Rattle.damage.specs.Numbers.{numbers_fit};
 
 use crate::{clock, slots, tails};
+use tables::NumberTables;
 
 // Whether the number tables are not damaged.
-pub fn numbers_fit(
-    clock: &[u32],
-    slots: &[u32],
-    words: &[u64],
-    heads: &[u32],
-    log: &[u32],
-    changes: &[u32],
-) -> bool
-    requires { Roomy clock.now slots.now words.now heads.now log.now changes.now }
-    ensures { result ≡ numbers_fit clock.now slots.now words.now heads.now
-        log.now changes.now }
+#[tactic(auto, unfolding(crate::specs::Numbers::numbers_fit))]
+pub fn numbers_fit(t: NumberTables) -> bool
+    requires { Roomy t.clock.now t.slots.now t.words.now t.heads.now t.log.now t.changes.now }
+    ensures { result ≡ numbers_fit t.entry.clock.now t.entry.slots.now t.entry.words.now t.entry.heads.now
+        t.entry.log.now t.entry.changes.now }
 {
-    if !clock::clock_fits(clock) {
-        return false;
-    }
-    if !record_damage::records_fit(clock, log) {
-        return false;
-    }
-    if !change_damage::changes_fit(clock, log, changes) {
-        return false;
-    }
-    if !slots::slots_fit(clock, slots) {
-        return false;
-    }
-    if !slots::heads_fit(clock, slots, heads) {
-        return false;
-    }
-    tails::vectors_fit(clock, log, slots, words)
+    clock::clock_fits(t.clock)
+        && record_damage::records_fit(t.clock, t.log)
+        && change_damage::changes_fit(t.clock, t.log, t.changes)
+        && slots::slots_fit(t.clock, t.slots)
+        && slots::heads_fit(t.clock, t.slots, t.heads)
+        && tails::vectors_fit(t.clock, t.log, t.slots, t.words)
 }

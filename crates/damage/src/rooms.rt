@@ -2,24 +2,18 @@
 ghost use Rattle.std.specs.Prelude.{◌≡◌};
 ghost use Rattle.tables.specs.Room.{room_for};
 
+use tables::NumberTables;
+
 // Whether every table has room for its full limit; `places` is the length of the session table.
-pub fn room(
-    clock: &[u32],
-    slots: &[u32],
-    words: &[u64],
-    heads: &[u32],
-    log: &[u32],
-    changes: &[u32],
-    places: usize,
-) -> bool
-    ensures { result ≡ room_for clock.now slots.now words.now heads.now
-        log.now changes.now places }
+pub fn room(t: NumberTables, places: usize) -> bool
+    ensures { result ≡ room_for t.entry.clock.now t.entry.slots.now t.entry.words.now t.entry.heads.now
+        t.entry.log.now t.entry.changes.now places }
 {
-    (6 <= clock.len())
-        & (288 <= slots.len())
-        & (3072 <= words.len())
-        & (32 <= heads.len())
-        & (2048 <= log.len())
-        & (4096 <= changes.len())
+    (6 <= t.clock.len())
+        & (tables::SLOT_CELLS <= t.slots.len())
+        & (tables::SLOT_WORDS <= t.words.len())
+        & (tables::HEAD_CELLS <= t.heads.len())
+        & (tables::LOG_CELLS <= t.log.len())
+        & (tables::CHANGE_CELLS <= t.changes.len())
         & (16 <= places)
 }

@@ -29,18 +29,17 @@ fn first_slots_fit(slots: &[u32], n: usize) -> bool
 }
 
 // Whether slot i links to an earlier slot of its value with a smaller stamp.
+#[tactic(auto, unfolding(crate::specs::Parts::link_fits))]
 fn link_fits(slots: &[u32], i: usize) -> bool
     requires { (i < 96) × (288 ≤ length slots.now) }
     ensures { result ≡ link_fits slots.now i }
 {
-    let link = tables::slot_link(slots, i);
-    if link == 0 {
+    let Some(j) = tables::slot_link(slots, i) else {
+        return false;
+    };
+    if i <= j {
         return false;
     }
-    if i < link {
-        return false;
-    }
-    let j = link - 1;
     (slots[j] == slots[i]) & (slots[96 + j] < slots[96 + i])
 }
 
