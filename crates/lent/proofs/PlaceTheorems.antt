@@ -8,7 +8,7 @@ use Rattle.std.proofs.Math.Facts.{and_yes, and_no}
 use Rattle.bits.proofs.Cases.{eq-cases, lt-cases}
 use Rattle.tables.specs.declared.session.Session.{Session}
 use Rattle.tables.specs.Sessions.{freed, session_at}
-use Rattle.lent.specs.Places.{seat_at, put_at, freed_all, listed_back, freed_at, all_freed, freed_from, left_freed}
+use Rattle.lent.specs.Places.{seat_at, put_at, freed_all, freed_at, freed_from}
 
 -- ---- a place that the slice has, and one that it has not
 cond_yes : {X : Type 0} (t : Bool) (a b : X) → T t → cond t a b ≡ a
@@ -57,12 +57,6 @@ pub put-at-far : (ts : List Session) (i : ℕ) (s : Session) → 16 ≤ i → pu
 unfolding put_at
 put-at-far ts i s l = ap (λ (t : Bool). cond t (set ts i s) ts) (le-ltb i 16 l)
 
--- what is put at place n or at none is put where asked to
-pub put-meant : (ts : List Session) (n : ℕ) (z : Bool) (s : Session) → put_at ts (cond z n 16) s ≡ listed_back ts n z s
-unfolding listed_back
-put-meant ts n true s = refl
-put-meant ts n false s = put-at-far ts 16 s (omega arith)
-
 pub length-freed-all : (ts : List Session) → length (freed_all ts) ≡ length ts
 unfolding freed_all
 length-freed-all ts = length-sets ts 0 (replicate 16 freed)
@@ -71,21 +65,11 @@ length-freed-all ts = length-sets ts 0 (replicate 16 freed)
 pub free_step : (ts : List Session) (i n : ℕ) → i < 16 → freed_from (put_at ts i freed) (suc i) n ≡ freed_from ts i (suc n)
 free_step ts i n h = ap (λ (us : List Session). freed_from us (suc i) n) (put-near ts i freed h)
 
-pub freed-next : (ts : List Session) (i : ℕ) (z : Bool) → i < 16 → left_freed (freed_at ts i z) (i + 1) z ≡ left_freed ts i z
-unfolding freed_at listed_back
-freed-next ts i true h =
+pub freed-next : (ts : List Session) (i : ℕ) → i < 16 → freed_from (freed_at ts i) (i + 1) (16 - (i + 1)) ≡ freed_from ts i (16 - i)
+freed-next ts i h =
     let m : ℕ = 16 - (i + 1) in
     let s : suc m ≡ 16 - i = omega (arith, h) in
     ap (λ (k : ℕ). freed_from (put_at ts i freed) k m) (add-one i) ∙ free_step ts i m h ∙ ap (freed_from ts i) s
-freed-next ts i false h = refl
-
-pub left-none : (ts : List Session) (i : ℕ) (z : Bool) → 16 ≤ i → left_freed ts i z ≡ ts
-left-none ts i true h = let e : 16 - i ≡ 0 = omega (arith, h) in ap (freed_from ts i) e
-left-none ts i false h = refl
-
-pub left-all : (ts : List Session) (z : Bool) → left_freed ts 0 z ≡ all_freed ts z
-unfolding all_freed freed_all
-left-all ts z = refl
 
 -- freeing a place leaves it free, and leaves free what was free
 at-itself : (ts : List Session) (j : ℕ) → session_at (set ts j freed) j ≡ freed

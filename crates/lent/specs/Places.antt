@@ -1,6 +1,6 @@
 -- The session at a place of the lent slice, and the slice with a session put at a place or with every place freed: the first 16
 -- places are in use, and no other is read or written.
-use Rattle.std.specs.Prelude.{Bool, cond, List, ℕ, ◌-◌, ltb, set, replicate}
+use Rattle.std.specs.Prelude.{cond, List, ℕ, ltb, set, replicate}
 use Rattle.std.proofs.lemmas.List.Edits.{sets}
 use Rattle.tables.specs.declared.session.Session.{Session}
 use Rattle.tables.specs.declared.counts.Stamp.{Stamp}
@@ -19,23 +19,13 @@ put_at ts i s = cond (ltb i 16) (set ts i s) ts
 unfoldable pub freed_all : List Session → List Session
 freed_all ts = sets ts 0 (replicate 16 freed)
 
--- a session put at place n, opened there, or freed there; and every place freed: where asked to
-unfoldable pub listed_back : List Session → ℕ → Bool → Session → List Session
-listed_back ts n z s = cond z (put_at ts n s) ts
+-- a session opened at place n, and one freed there
+abbrev pub opened_at : List Session → ℕ → Stamp → Row → List Session
+opened_at ts n start rows = put_at ts n (begun start rows)
 
-unfoldable pub opened_at : List Session → ℕ → Bool → Stamp → Row → List Session
-opened_at ts n z start rows = listed_back ts n z (begun start rows)
-
-unfoldable pub freed_at : List Session → ℕ → Bool → List Session
-freed_at ts n z = listed_back ts n z freed
-
-unfoldable pub all_freed : List Session → Bool → List Session
-all_freed ts z = cond z (freed_all ts) ts
+abbrev pub freed_at : List Session → ℕ → List Session
+freed_at ts n = put_at ts n freed
 
 -- ---- the loop that frees every place: what is left of it, from place i on
 abbrev pub freed_from : List Session → ℕ → ℕ → List Session
 freed_from ts i n = sets ts i (replicate n freed)
-
--- what is left of it where it may do nothing
-abbrev pub left_freed : List Session → ℕ → Bool → List Session
-left_freed ts i z = cond z (freed_from ts i (16 - i)) ts

@@ -9,8 +9,7 @@ pub fn advance(c: &mut Clock, rows: Row)
     requires { c.old.stamp.0 < 4294967295 }
     ensures { c.new ≡ later c.old rows }
 {
-    let next = tables::advanced(*c, rows);
-    *c = next;
+    *c = tables::advanced(*c, rows);
 }
 
 // A clock by value, moved in place.

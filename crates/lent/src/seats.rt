@@ -17,13 +17,9 @@ pub struct Seat {
 pub fn seat_of(clock: &[u32], log: &[u32], t: &[Session], n: u64) -> Seat
     ensures { result ≡ seat_of clock.now log.now t.now n }
 {
-    let c = tables::clock_lent(clock);
-    let fit = all_fit(t, log, c);
-    let many = places(t);
-    let one = place(t, n);
     Seat {
-        places: many,
-        fit: fit,
-        session: one,
+        places: places(t),
+        fit: all_fit(t, log, tables::clock_lent(clock)),
+        session: place(t, n),
     }
 }

@@ -8,4 +8,4 @@ returns-then-within c = place-there c.args.t.now c.args.n _ (sym c.within.ensure
 
 pub returns-else-within : goal.returns-else-within
 returns-else-within c =
-    c.free_session-s.ensures ∙ place-nowhere c.args.t.now c.args.n (sym c.within.ensures ∙ c.if-within.false)
+    c.free_session.ensures ∙ place-nowhere c.args.t.now c.args.n (sym c.within.ensures ∙ c.if-within.false)
