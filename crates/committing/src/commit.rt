@@ -10,33 +10,31 @@ ghost use Rattle.committing.specs.Commit.{CommitAsked, commit_tests};
 
 use crate::writes;
 use lent::Seat;
-use outcomes::{Freed, Test};
-use tables::{Refusal, Session};
+use outcomes::Answer;
+use tables::{NumberTables, Refusal, Session};
 
 // The refusals 11, 12, 15, 16 and 17.
-fn ready(clock: &[u32], log: &[u32], changes: &[u32], s: Session) -> Test
+fn ready(clock: &[u32], log: &[u32], changes: &[u32], s: Session) -> Result<(), Refusal>
     requires { CommitAsked clock.now log.now changes.now s }
     ensures { why_of result ≡ first_of (commit_tests clock.now log.now changes.now s) }
 {
     let c = tables::clock_of(clock);
-    let stamp = c.stamp;
-    let rows = c.rows;
     if s.count == 0 {
-        return Test::No(Refusal::ListEmpty);
+        return Err(Refusal::ListEmpty);
     }
-    if conflict::clash(log, changes, s, stamp) {
-        return Test::No(Refusal::Conflict);
+    if conflict::clash(log, changes, s, c.stamp) {
+        return Err(Refusal::Conflict);
     }
-    if tables::MAX_ROWS < rows.0 + outcomes::inserts(s) {
-        return Test::No(Refusal::RowsFull);
+    if tables::MAX_ROWS < c.rows.0 + outcomes::inserts(s) {
+        return Err(Refusal::RowsFull);
     }
-    if tables::MAX_RECORDS <= stamp.0 {
-        return Test::No(Refusal::RecordsFull);
+    if tables::MAX_RECORDS <= c.stamp.0 {
+        return Err(Refusal::RecordsFull);
     }
     if tables::MAX_CHANGES < tables::changes_used(clock) + s.count {
-        return Test::No(Refusal::ChangesFull);
+        return Err(Refusal::ChangesFull);
     }
-    Test::Passed
+    Ok(())
 }
 
 // Commit of an open session on undamaged tables.
@@ -49,25 +47,19 @@ fn commit_now(
     changes: &mut [u32],
     s: Session,
     n: u64,
-) -> Freed
+) -> Result<Answer, Refusal>
     requires { Usable clock.old slots.now words.now heads.now log.old changes.old s }
     ensures { Settles
         (tables clock.old slots.now words.now heads.now log.old
         changes.old)
         (tables clock.new slots.now words.now heads.now log.new
-        changes.new) s n (freeing result n) result.answer (λ t. commit_of t n) }
+        changes.new) s n (freeing result n) result (λ t. commit_of t n) }
 {
-    let go = ready(clock, log, changes, s);
-    match go {
-        Test::No(why) => outcomes::none_freed(why),
-        Test::Passed => {
-            let answer = writes::commit_work(clock, slots, words, heads, log, changes, s);
-            outcomes::made_free(answer)
-        }
-    }
+    ready(clock, log, changes, s)?;
+    Ok(writes::commit_work(clock, slots, words, heads, log, changes, s))
 }
 
-// Commit: the stamp and the row count after it, and whether the session is to be freed.
+// Commit: the stamp and the row count after it; the session is to be freed.
 pub fn commit_in(
     clock: &mut [u32],
     slots: &[u32],
@@ -77,17 +69,21 @@ pub fn commit_in(
     changes: &mut [u32],
     seat: Seat,
     n: u64,
-) -> Freed
+) -> Result<Answer, Refusal>
     ensures { Serves
         (tables clock.old slots.now words.now heads.now log.old
         changes.old)
         (tables clock.new slots.now words.now heads.now log.new
-        changes.new) [] seat n (freeing result n) result.answer (λ t. commit_of t n) }
+        changes.new) [] seat n (freeing result n) result (λ t. commit_of t n) }
 {
-    let s = seat.session;
-    let test = outcomes::opened(clock, slots, words, heads, log, changes, seat, n);
-    match test {
-        Test::No(why) => outcomes::none_freed(why),
-        Test::Passed => commit_now(clock, slots, words, heads, log, changes, s, n),
-    }
+    let t = NumberTables {
+        clock,
+        slots,
+        words,
+        heads,
+        log,
+        changes,
+    };
+    outcomes::opened(t, seat, n)?;
+    commit_now(clock, slots, words, heads, log, changes, seat.session, n)
 }

@@ -10,47 +10,30 @@ ghost use Rattle.outcomes.specs.Stores.{put_changes};
 ghost use Rattle.committing.specs.Commit.{toggled_in, new_cells, insert_cells, RowReady, RowsReady, RowsStored, InsertsReady};
 ghost use Rattle.committing.specs.Commit.{Recorded, CommitReady, changes_made, Committed};
 
-use history::Standing;
 use outcomes::Answer;
-use tables::{Row, Session, Stamp, Value};
+use tables::{Kind, NumberTables, Row, Session, Stamp, Value};
 
 // A flip set with what a row holds toggled, if it holds a value.
-pub fn toggled(set: u32, held: Standing) -> u32
+pub fn toggled(set: u32, held: Option<Value>) -> u32
     ensures { result ≡ toggled_in set (standing_of held) }
 {
     match held {
-        Standing::Absent => set,
-        Standing::Holds(v) => {
-            if v.0 < tables::MAX_VALUES {
-                return bits::toggle(set, v.0);
-            }
-            set
-        }
+        Some(v) if v.0 < tables::MAX_VALUES => bits::toggle(set, v.0),
+        _ => set,
     }
 }
 
 // The new flip set of a listed row: that at the start, with its read and its target toggled.
-fn new_set(
-    clock: &[u32],
-    slots: &[u32],
-    words: &[u64],
-    heads: &[u32],
-    log: &[u32],
-    changes: &[u32],
-    start: Stamp,
-    row: Row,
-    to: u8,
-) -> u32
-    requires { (6 ≤ length clock.now) × ReadReady slots.now words.now heads.now log.now changes.now
-        (values_in clock.now) start.0 }
-    ensures { result ≡ new_cells slots.now words.now heads.now log.now
-        changes.now (values_in clock.now) start.0 row.0 (target_of to) }
+fn new_set(t: NumberTables, start: Stamp, row: Row, to: u8) -> u32
+    requires { (6 ≤ length t.clock.now) × ReadReady t.slots.now t.words.now t.heads.now t.log.now t.changes.now
+        (values_in t.clock.now) start.0 }
+    ensures { result ≡ new_cells t.entry.slots.now t.entry.words.now t.entry.heads.now t.entry.log.now
+        t.entry.changes.now (values_in t.entry.clock.now) start.0 row.0 (target_of to) }
 {
-    let c = tables::clock_of(clock);
-    let values = c.values;
-    let last = history::last_naming(changes, tables::end_at(log, start), row);
-    let held = history::read_after(slots, words, heads, log, values, start, row, last);
-    toggled(toggled(last.set, held), outcomes::target_of(to))
+    let c = tables::clock_of(t.clock);
+    let last = history::last_naming(t.changes, tables::end_at(t.log, start), row);
+    let held = history::read_after(t, c.values, start, row, last);
+    toggled(toggled(history::set_of(last), held), outcomes::target_of(to))
 }
 
 // The change of listed row i is written at p.
@@ -70,11 +53,16 @@ fn write_row(
         (new_cells slots.now words.now heads.now log.now changes.old
         (values_in clock.now) s.start.0 (get_or s.at i 0) (target_of (get_or s.to i 0))) }
 {
-    let row = Row(bits::long(s.at[i]));
-    let start = s.start;
-    let set = new_set(
-        clock, slots, words, heads, log, changes, start, row, s.to[i],
-    );
+    let row = Row(u32::from(s.at[i]));
+    let t = NumberTables {
+        clock,
+        slots,
+        words,
+        heads,
+        log,
+        changes,
+    };
+    let set = new_set(t, s.start, row, s.to[i]);
     tables::put_change(changes, p, row, set);
 }
 
@@ -94,15 +82,12 @@ fn write_rows(
         (new_cells slots.now words.now heads.now log.now changes.old
         (values_in clock.now) s.start.0) s from changes.old changes.new s.count result }
 {
-    let n = bits::wide(s.count);
     let mut p = from;
-    let mut i: usize = 0;
-    while i < n {
+    for i in 0..s.count as usize {
         if s.at[i] != tables::NEW {
             write_row(clock, slots, words, heads, log, changes, s, i, p);
             p += 1;
         }
-        i += 1;
     }
     p
 }
@@ -112,8 +97,8 @@ fn write_insert(changes: &mut [u32], s: Session, i: usize, p: usize, row: Row)
     requires { (i < 32) × (p < 2048) × (4096 ≤ length changes.old) }
     ensures { changes.new ≡ put_change changes.old p row.0 (toggled_in 0 (some (get_or s.to i 0))) }
 {
-    let v = Value(bits::wide_byte(s.to[i]));
-    tables::put_change(changes, p, row, toggled(0, Standing::Holds(v)));
+    let v = Value(u32::from(s.to[i]));
+    tables::put_change(changes, p, row, toggled(0, Some(v)));
 }
 
 // The row after another.
@@ -129,17 +114,14 @@ fn write_inserts(changes: &mut [u32], s: Session, from: usize, rows: Row)
     requires { InsertsReady changes.old s from rows.0 }
     ensures { changes.new ≡ put_changes changes.old from (insert_cells rows.0 (rules.inserts (entries s))) }
 {
-    let n = bits::wide(s.count);
     let mut p = from;
     let mut row = rows;
-    let mut i: usize = 0;
-    while i < n {
+    for i in 0..s.count as usize {
         if s.at[i] == tables::NEW {
             write_insert(changes, s, i, p, row);
             p += 1;
             row = next_row(row);
         }
-        i += 1;
     }
 }
 
@@ -159,10 +141,9 @@ fn write_changes(
         changes.old s) }
 {
     let c = tables::clock_of(clock);
-    let rows = c.rows;
-    let from = bits::wide(tables::changes_used(clock));
+    let from = tables::changes_used(clock) as usize;
     let p = write_rows(clock, slots, words, heads, log, changes, s, from);
-    write_inserts(changes, s, p, rows);
+    write_inserts(changes, s, p, c.rows);
 }
 
 // The record of a commit and the clock after it are written.
@@ -172,11 +153,10 @@ fn write_commit(clock: &mut [u32], log: &mut [u32], rows: Row, end: u32) -> Answ
 {
     let c = tables::clock_of(clock);
     let next = lent::ticked(c, rows);
-    let stamp = next.stamp;
-    tables::put_record(log, stamp, 1, rows, end);
+    tables::put_record(log, next.stamp, Kind::Commit as u32, rows, end);
     tables::put_moment(clock, next);
     tables::put_changes_used(clock, end);
-    Answer::At(stamp, rows)
+    Answer::At(next.stamp, rows)
 }
 
 // A commit that is not refused.
@@ -194,8 +174,7 @@ pub fn commit_work(
         log.old changes.old s clock.new log.new changes.new result }
 {
     let c = tables::clock_of(clock);
-    let rows = c.rows;
-    let after = Row(rows.0 + outcomes::inserts(s));
+    let after = Row(c.rows.0 + outcomes::inserts(s));
     let end = tables::changes_used(clock) + s.count;
     write_changes(clock, slots, words, heads, log, changes, s);
     write_commit(clock, log, after, end)

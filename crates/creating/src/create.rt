@@ -9,8 +9,8 @@ ghost use Rattle.outcomes.specs.Calls.{below, column_of, create_of};
 ghost use Rattle.creating.specs.Create.{Creatable, Created};
 ghost use Rattle.outcomes.specs.Seats.{Creates};
 
-use outcomes::{Answer, Freed};
-use tables::{Clock, Refusal, Row, Stamp, Value};
+use outcomes::Answer;
+use tables::{Clock, NumberTables, Refusal, Row, Stamp, Value};
 
 // Whether each byte of a column is below C or 255.
 fn column_known(column: &[u8], values: Value) -> bool
@@ -18,13 +18,9 @@ fn column_known(column: &[u8], values: Value) -> bool
     ensures { result ≡ not (some_outside values.0 (column_of column.now)) }
 {
     let c = values.0 as u8;
-    let n = column.len();
     let mut ok = true;
-    let mut r: usize = 0;
-    while r < n {
-        let b = column[r];
-        ok = ok & ((b < c) | (b == 255));
-        r += 1;
+    for b in column {
+        ok = ok & ((*b < c) | (*b == 255));
     }
     ok
 }
@@ -33,16 +29,10 @@ fn column_known(column: &[u8], values: Value) -> bool
 fn column_refused(values: Value, column: &[u8]) -> bool
     ensures { result ≡ bad_column values.0 (column_of column.now) }
 {
-    if values.0 == 0 {
-        return true;
-    }
-    if tables::MAX_VALUES < values.0 {
-        return true;
-    }
-    if (tables::MAX_ROWS as usize) < column.len() {
-        return true;
-    }
-    !column_known(column, values)
+    values.0 == 0
+        || tables::MAX_VALUES < values.0
+        || (tables::MAX_ROWS as usize) < column.len()
+        || !column_known(column, values)
 }
 
 // The first n cells: one for each value becomes its own number, the others 0.
@@ -50,16 +40,11 @@ fn numbered(cells: &mut [u32], n: usize, values: Value)
     requires { (values.0 ≤ n) × (n ≤ length cells.old) }
     ensures { cells.new ≡ over (tab (below values.0) n) cells.old }
 {
-    let c = bits::wide(values.0);
-    let mut i: usize = 0;
-    while i < c {
-        cells[i] = bits::narrow(i);
-        i += 1;
+    let c = values.0 as usize;
+    for i in 0..c {
+        cells[i] = i as u32;
     }
-    while i < n {
-        cells[i] = 0;
-        i += 1;
-    }
+    cells[c..n].fill(0);
 }
 
 // The first n cells become 0.
@@ -67,7 +52,7 @@ fn zero_cells(cells: &mut [u32], n: usize)
     requires { n ≤ length cells.old }
     ensures { cells.new ≡ over (replicate n 0) cells.old }
 {
-    numbered(cells, n, Value(0));
+    cells[..n].fill(0);
 }
 
 // The vectors of a column, and of every other slot none.
@@ -98,23 +83,23 @@ fn create_work(
         changes.new)
         values.0 column.now result }
 {
-    let rows = Row(bits::narrow(column.len()));
+    let rows = Row(column.len() as u32);
     numbered(slots, tables::SLOT_CELLS, values);
     numbered(heads, tables::HEAD_CELLS, values);
     zero_cells(log, tables::LOG_CELLS);
     zero_cells(changes, tables::CHANGE_CELLS);
     write_columns(&mut words[..tables::SLOT_WORDS], column);
     let made = Clock {
-        values: values,
+        values,
         first: rows,
         stamp: Stamp(0),
-        rows: rows,
+        rows,
     };
     tables::put_clock(clock, made, values.0, 0);
     Answer::Count(rows.0)
 }
 
-// Create: the row count, and whether every session is to be freed.
+// Create: the row count; every session is to be freed.
 pub fn create_in(
     clock: &mut [u32],
     slots: &mut [u32],
@@ -125,7 +110,7 @@ pub fn create_in(
     places: usize,
     c: u64,
     column: &[u8],
-) -> Freed
+) -> Result<Answer, Refusal>
     ensures { Creates
         (tables clock.old slots.old words.old heads.old log.old
         changes.old)
@@ -133,13 +118,20 @@ pub fn create_in(
         changes.new)
         places result (λ t. create_of t c column.now) }
 {
-    if !damage::room(clock, slots, words, heads, log, changes, places) {
-        return outcomes::none_freed(Refusal::NoRoom);
+    let t = NumberTables {
+        clock,
+        slots,
+        words,
+        heads,
+        log,
+        changes,
+    };
+    if !damage::room(t, places) {
+        return Err(Refusal::NoRoom);
     }
     let values = outcomes::value_of(c);
     if column_refused(values, column) {
-        return outcomes::none_freed(Refusal::BadColumn);
+        return Err(Refusal::BadColumn);
     }
-    let answer = create_work(clock, slots, words, heads, log, changes, values, column);
-    outcomes::made_free(answer)
+    Ok(create_work(clock, slots, words, heads, log, changes, values, column))
 }

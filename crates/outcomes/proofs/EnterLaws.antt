@@ -1,5 +1,6 @@
 -- Tables of tests: one that begins with another, and a test that never decides. The shared refusals, a test at a time, as the code
 -- judges them.
+use Rattle.std.specs.Prelude.{Result, Ok, Err}
 use mathlib.Core.Path.{◌≡◌, refl, ap, sym, ◌∙◌}
 use mathlib.Core.Bool.{Bool, true, false, cond, not, ◌&&◌}
 use mathlib.Core.Option.{none, some, none-ne-some, some-ne-none, Option}
@@ -20,9 +21,7 @@ use Rattle.tables.specs.Room.{room_for, Roomy}
 use Rattle.damage.specs.Numbers.{numbers_fit}
 use Rattle.tables.proofs.Facts.{room-lengths}
 use Rattle.lent.specs.declared.seats.Seat.{Seat}
-use Rattle.outcomes.specs.declared.enter.Test.TheVariants.{Passed, No}
 use Rattle.outcomes.specs.Enter.{why_of, entered_by, placed_by, shut, in_reach, strange, unknown, opened_by, valued_by}
-use Rattle.outcomes.specs.declared.enter.Test as asked
 
 -- a number given by the beginning of a table is given by the table
 pub first-begins : (ts us : List Test) (k : ℕ) → first_of ts ≡ some k → first_of (ts ++ us) ≡ some k
@@ -142,7 +141,7 @@ in_table n h = rw (lt-leb 16 n (omega arith))
 
 -- ---- 5 and a seat's reach, then 6
 
-module _ (clock slots words heads log changes : List ℕ) (x : Seat) (n : ℕ) (test : asked.Test) where
+module _ (clock slots words heads log changes : List ℕ) (x : Seat) (n : ℕ) (test : Result (Unit {0}) Refusal) where
   abbrev tests : List Test → Option ℕ
   tests = entered_by clock slots words heads log changes x.places x.fit
 
@@ -153,13 +152,13 @@ module _ (clock slots words heads log changes : List ℕ) (x : Seat) (n : ℕ) (
       e).room-found).clock-room
 
   module _ (e : why_of test ≡ placed_by clock slots words heads log changes x.places x.fit n) where
-    pub opened-stays : (why : Refusal) → test ≡ No why → why_of test ≡ opened_by clock slots words heads log changes x n
+    pub opened-stays : (why : Refusal) → test ≡ Err why → why_of test ≡ opened_by clock slots words heads log changes x n
     opened-stays why h =
         ap why_of h
         ∙ stays clock slots words heads log changes x.places x.fit (no_session n ∷ []) (shut x ∷ strange clock x ∷ []) (number_of why)
         (sym e ∙ ap why_of h)
 
-    module _ (h : test ≡ Passed) where
+    module _ (h : test ≡ Ok tt) where
       placed-none : tests (no_session n ∷ []) ≡ none
       placed-none = sym e ∙ ap why_of h
 
@@ -190,14 +189,14 @@ module _ (clock slots words heads log changes : List ℕ) (x : Seat) (n : ℕ) (
         opened-passes h = ap (λ (z : Bool). cond z (some 2) none) (sym h) ∙ left
 
   module _ (e : why_of test ≡ opened_by clock slots words heads log changes x n) (v : ℕ) where
-    pub valued-stays : (why : Refusal) → test ≡ No why → why_of test ≡ valued_by clock slots words heads log changes x n v
+    pub valued-stays : (why : Refusal) → test ≡ Err why → why_of test ≡ valued_by clock slots words heads log changes x n v
     valued-stays why h =
         ap why_of h
         ∙ stays clock slots words heads log changes x.places x.fit (no_session n ∷ shut x ∷ strange clock x ∷ [])
         (unknown clock v ∷ []) (number_of why)
         (sym e ∙ ap why_of h)
 
-    module _ (h : test ≡ Passed) where
+    module _ (h : test ≡ Ok tt) where
       pub opened-clock : 6 ≤ length clock
       opened-clock = clock-there (no_session n ∷ shut x ∷ strange clock x ∷ []) (sym e ∙ ap why_of h)
 

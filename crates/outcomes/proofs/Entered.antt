@@ -1,5 +1,6 @@
 -- What a passed test of `enter` says: of the number tables alone, which is what the code goes on with, and of all tables that show
 -- the seat, where the rest of the call's tests decides.
+use Rattle.std.specs.Prelude.{Result, Ok, Err}
 use mathlib.Core.Path.{◌≡◌, refl, sym, ap, subst, ◌∙◌}
 use mathlib.Core.Bool.{Bool, true, false, not, cond, ◌&&◌, and_comm}
 use mathlib.Core.Option.{none, some, some-ne-none}
@@ -38,8 +39,6 @@ use Rattle.damage.proofs.SoundLaws.{judged-sound-lent}
 use Rattle.lent.specs.Places.{seat_at}
 use Rattle.lent.specs.declared.seats.Seat.{Seat}
 use Rattle.lent.specs.Seats as lent
-use Rattle.outcomes.specs.declared.enter.Test as asked
-use Rattle.outcomes.specs.declared.enter.Test.TheVariants.{Passed, No}
 use Rattle.outcomes.specs.Outcome.{refusal_at}
 use Rattle.outcomes.specs.Seats.{seat_of}
 use Rattle.outcomes.specs.Enter.{why_of, entered_by, placed_by, shut, in_reach, strange, unknown, opened_by, valued_by}
@@ -94,7 +93,7 @@ module _ (clock slots words heads log changes : List ℕ) where
     pub count_low : x.count ≤ 32
     pub value_low : v < values_in clock
 
-  module _ (x : Seat) (n : ℕ) (test : asked.Test) (h : test ≡ Passed) where
+  module _ (x : Seat) (n : ℕ) (test : Result (Unit {0}) Refusal) (h : test ≡ Ok tt) where
     abbrev came : List Test → Type 0
     came ts = Passes clock slots words heads log changes x.places x.fit ts
 
@@ -281,16 +280,16 @@ module _ (t : Tables) (n : ℕ) (x : Seat) (e : x ≡ seat_of t n) where
       first-skips (no_session n) (shut x) (strange t.clock x) us (never-strange good)
       ∙ ap (λ (b : Bool). cond (leb max_sessions n) (some 4) (cond b (some 5) (first_of us))) shut-is
 
-  module _ (c : Call) (rest : List Test) (test : asked.Test) where
+  module _ (c : Call) (rest : List Test) (test : Result (Unit {0}) Refusal) where
     -- a call whose table begins with 4
     module _ (b : tests (meaning t) c ≡ no_session n ∷ rest)
         (q : why_of test ≡ placed_by t.clock t.slots t.words t.heads t.log t.changes x.places x.fit n) where
-      pub placed-refuses : (why : Refusal) → test ≡ No why → refusal_at t c ≡ some (number_of why)
+      pub placed-refuses : (why : Refusal) → test ≡ Err why → refusal_at t c ≡ some (number_of why)
       placed-refuses why h =
           refuses (no_session n ∷ []) c (number_of why) (λ good z. ap first_of b ∙ first-begins (no_session n ∷ []) rest (number_of why) z)
           (sym q ∙ ap why_of h)
 
-      pub placed-goes : test ≡ Passed → Goes t c rest
+      pub placed-goes : test ≡ Ok tt → Goes t c rest
       placed-goes h = goes (no_session n ∷ []) c rest (λ good z. ap first_of b ∙ first-goes-on (no_session n ∷ []) rest z) (sym q ∙ ap why_of h)
 
     -- with 4 and 5
@@ -299,17 +298,17 @@ module _ (t : Tables) (n : ℕ) (x : Seat) (e : x ≡ seat_of t n) where
       abbrev five : List Test
       five = no_session n ∷ not_open (session (meaning t) n) ∷ []
 
-      pub opened-refuses : (why : Refusal) → test ≡ No why → refusal_at t c ≡ some (number_of why)
+      pub opened-refuses : (why : Refusal) → test ≡ Err why → refusal_at t c ≡ some (number_of why)
       opened-refuses why h =
           refuses (no_session n ∷ shut x ∷ strange t.clock x ∷ []) c (number_of why)
           (λ good z. ap first_of b ∙ first-begins five rest (number_of why) (sym (opening good []) ∙ z)) (sym q ∙ ap why_of h)
 
-      pub opened-goes : test ≡ Passed → Goes t c rest
+      pub opened-goes : test ≡ Ok tt → Goes t c rest
       opened-goes h =
           goes (no_session n ∷ shut x ∷ strange t.clock x ∷ []) c rest
           (λ good z. ap first_of b ∙ first-goes-on five rest (sym (opening good []) ∙ z)) (sym q ∙ ap why_of h)
 
-      pub opened-shows : test ≡ Passed → Shows t n x.session
+      pub opened-shows : test ≡ Ok tt → Shows t n x.session
       opened-shows h =
           let o = opened-passed t.clock t.slots t.words t.heads t.log t.changes x n test h q in
           shows (opened-goes h).good o.place-low o.live-one
@@ -325,17 +324,17 @@ module _ (t : Tables) (n : ℕ) (x : Seat) (e : x ≡ seat_of t n) where
           opening good (unknown t.clock v ∷ [])
           ∙ ap (λ (m : ℕ). first_of (no_session n ∷ not_open (session (meaning t) n) ∷ (leb m v, 6) ∷ [])) (sym (values-means t))
 
-      pub valued-refuses : (why : Refusal) → test ≡ No why → refusal_at t c ≡ some (number_of why)
+      pub valued-refuses : (why : Refusal) → test ≡ Err why → refusal_at t c ≡ some (number_of why)
       valued-refuses why h =
           refuses (no_session n ∷ shut x ∷ strange t.clock x ∷ unknown t.clock v ∷ []) c (number_of why)
           (λ good z. ap first_of b ∙ first-begins six rest (number_of why) (sym (alike good) ∙ z)) (sym q ∙ ap why_of h)
 
-      pub valued-goes : test ≡ Passed → Goes t c rest
+      pub valued-goes : test ≡ Ok tt → Goes t c rest
       valued-goes h =
           goes (no_session n ∷ shut x ∷ strange t.clock x ∷ unknown t.clock v ∷ []) c rest
           (λ good z. ap first_of b ∙ first-goes-on six rest (sym (alike good) ∙ z)) (sym q ∙ ap why_of h)
 
-      pub valued-shows : test ≡ Passed → Shows t n x.session
+      pub valued-shows : test ≡ Ok tt → Shows t n x.session
       valued-shows h =
           let o = valued-passed t.clock t.slots t.words t.heads t.log t.changes x n test h v q in
           shows (valued-goes h).good o.place-low o.live-one

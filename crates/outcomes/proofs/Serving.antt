@@ -1,4 +1,5 @@
 -- What a core's end comes to in all tables that show its seat: a refusal, an answer that touches no session, one that seats a session.
+use Rattle.std.specs.Prelude.{Result, Ok, Err}
 use mathlib.Core.Path.{◌≡◌, refl, sym, ap, ◌∙◌}
 use mathlib.Core.Bool.{Bool, true, false, cond}
 use mathlib.Core.Option.{Option, none, some, some-ne-none}
@@ -19,19 +20,16 @@ use Rattle.tables.specs.Sessions.{freed, begun}
 use Rattle.tables.specs.Room.{roomy}
 use Rattle.tables.specs.Damage.{sound}
 use Rattle.tables.specs.Meaning.{meaning}
-use Rattle.lent.specs.Places.{put_at, listed_back, opened_at, freed_at}
+use Rattle.lent.specs.Places.{put_at, opened_at, freed_at}
 use Rattle.lent.specs.declared.seats.Seat.{Seat}
 use Rattle.outcomes.specs.declared.answers.Answer.{Answer}
-use Rattle.outcomes.specs.declared.answers.Answer.TheVariants.{No, Count, At}
+use Rattle.outcomes.specs.declared.answers.Answer.TheVariants.{Count, At}
 use Rattle.outcomes.specs.declared.answers.Begun.{Begun}
-use Rattle.outcomes.specs.declared.answers.Relisted.{Relisted}
-use Rattle.outcomes.specs.declared.answers.Freed.{Freed}
-use Rattle.outcomes.specs.declared.enter.Test as asked
-use Rattle.outcomes.specs.declared.enter.Test.TheVariants as asks
+use Rattle.outcomes.specs.declared.answers.Begun.TheVariants.{Opened, Stands}
 use Rattle.outcomes.specs.Said.{said, numbers}
 use Rattle.outcomes.specs.Outcome.{Outcome, outcome, refusal_at, unless}
 use Rattle.outcomes.specs.Calls.{reseated}
-use Rattle.outcomes.specs.Seats.{opens, opens_none, relists, relists_none, frees, frees_none, opening, relisting, freeing, beside}
+use Rattle.outcomes.specs.Seats.{begun_answer, list_answer, opening, relisting, freeing, beside}
 use Rattle.outcomes.specs.Seats.{Serves}
 use Rattle.outcomes.specs.Enter.{why_of, placed_by, opened_by, valued_by}
 use Rattle.outcomes.proofs.Entered.{placed-refuses, opened-refuses, valued-refuses}
@@ -39,24 +37,25 @@ use Rattle.outcomes.proofs.Entered.{placed-refuses, opened-refuses, valued-refus
 -- ---- the session table after each end
 
 -- an end that touches no session: what it says, and that the table stays
-pub record Idle (settled : List Session → List Session) (a b : Answer) : Type 0 where
+pub record Idle (settled : List Session → List Session) (a b : Result Answer Refusal) : Type 0 where
   pub says : a ≡ b
   pub stays : (ts : List Session) → settled ts ≡ ts
 
-pub idle : (a b : Answer) → a ≡ b → Idle (λ ts. ts) a b
+pub idle : (a b : Result Answer Refusal) → a ≡ b → Idle (λ ts. ts) a b
 idle a b e = record { says = e; stays = λ ts. refl }
 
-pub idle-opening : (d : Begun) (n : ℕ) (a : Answer) → d ≡ opens_none a → Idle (opening d n) d.answer a
-unfolding opens_none opened_at listed_back
-idle-opening d n a e = record { says = ap (λ (y : Begun). y.answer) e; stays = λ ts. ap (λ (y : Begun). opening y n ts) e }
+pub idle-opening : (d : Result Begun Refusal) (n : ℕ) (why : Refusal) → d ≡ Err why → Idle (opening d n) (begun_answer d) (Err why)
+idle-opening d n why e = record { says = ap begun_answer e; stays = λ ts. ap (λ (y : Result Begun Refusal). opening y n ts) e }
 
-pub idle-relisting : (d : Relisted) (n : ℕ) (why : Refusal) → d ≡ relists_none why → Idle (relisting d n) d.answer (No why)
-unfolding relists_none listed_back
-idle-relisting d n why e = record { says = ap (λ (y : Relisted). y.answer) e; stays = λ ts. ap (λ (y : Relisted). relisting y n ts) e }
+pub idle-standing : (d : Result Begun Refusal) (n : ℕ) (s : Stamp) (m : Row) → d ≡ Ok (Stands s m)
+    → Idle (opening d n) (begun_answer d) (Ok (At s m))
+idle-standing d n s m e = record { says = ap begun_answer e; stays = λ ts. ap (λ (y : Result Begun Refusal). opening y n ts) e }
 
-pub idle-freeing : (d : Freed) (n : ℕ) (why : Refusal) → d ≡ frees_none why → Idle (freeing d n) d.answer (No why)
-unfolding frees_none freed_at listed_back
-idle-freeing d n why e = record { says = ap (λ (y : Freed). y.answer) e; stays = λ ts. ap (λ (y : Freed). freeing y n ts) e }
+pub idle-relisting : (d : Result Session Refusal) (n : ℕ) (why : Refusal) → d ≡ Err why → Idle (relisting d n) (list_answer d) (Err why)
+idle-relisting d n why e = record { says = ap list_answer e; stays = λ ts. ap (λ (y : Result Session Refusal). relisting y n ts) e }
+
+pub idle-freeing : (d : Result Answer Refusal) (n : ℕ) (why : Refusal) → d ≡ Err why → Idle (freeing d n) d (Err why)
+idle-freeing d n why e = record { says = e; stays = λ ts. ap (λ (y : Result Answer Refusal). freeing y n ts) e }
 
 put-seat : (ts : List Session) (n : ℕ) (x : Session) → n < 16 → put_at ts n x ≡ set ts n x
 unfolding put_at
@@ -64,41 +63,40 @@ put-seat ts n x l = rw (lt-ltb n 16 l)
 
 module _ (t : Tables) (bs : List (List ℕ)) (n : ℕ) where
   -- what is left with a session table, and said
-  abbrev left : List Session → Answer → Outcome
+  abbrev left : List Session → Result Answer Refusal → Outcome
   left ts a = outcome (beside t ts) bs (said a)
 
-  pub idle-left : (settled : List Session → List Session) (a b : Answer) → Idle settled a b
+  pub idle-left : (settled : List Session → List Session) (a b : Result Answer Refusal) → Idle settled a b
       → left (settled t.sessions) a ≡ outcome t bs (said b)
   idle-left settled a b i =
-      ap (λ (ts : List Session). left ts a) (i.stays t.sessions) ∙ ap (λ (c : Answer). left t.sessions c) i.says
+      ap (λ (ts : List Session). left ts a) (i.stays t.sessions) ∙ ap (λ (c : Result Answer Refusal). left t.sessions c) i.says
 
-  seat-left : (x : Session) (a : Answer) → n < 16 → left (put_at t.sessions n x) a ≡ outcome (reseated t n x) bs (said a)
+  seat-left : (x : Session) (a : Result Answer Refusal) → n < 16 → left (put_at t.sessions n x) a ≡ outcome (reseated t n x) bs (said a)
   seat-left x a l = ap (λ (ts : List Session). left ts a) (put-seat t.sessions n x l)
 
-  pub opened-left : (d : Begun) (s : Stamp) (m : Row) → n < 16 → d ≡ opens s m
-      → left (opening d n t.sessions) d.answer ≡ outcome (reseated t n (begun s m)) bs (numbers (s.0 ∷ m.0 ∷ []))
-  unfolding opens opened_at listed_back
-  opened-left d s m l e = ap (λ (y : Begun). left (opening y n t.sessions) y.answer) e ∙ seat-left (begun s m) (At s m) l
+  pub opened-left : (d : Result Begun Refusal) (s : Stamp) (m : Row) → n < 16 → d ≡ Ok (Opened s m)
+      → left (opening d n t.sessions) (begun_answer d) ≡ outcome (reseated t n (begun s m)) bs (numbers (s.0 ∷ m.0 ∷ []))
+  opened-left d s m l e =
+      ap (λ (y : Result Begun Refusal). left (opening y n t.sessions) (begun_answer y)) e ∙ seat-left (begun s m) (Ok (At s m)) l
 
-  pub relisted-left : (d : Relisted) (x : Session) → n < 16 → d ≡ relists x
-      → left (relisting d n t.sessions) d.answer ≡ outcome (reseated t n x) bs (numbers (x.count ∷ []))
-  unfolding relists listed_back
-  relisted-left d x l e = ap (λ (y : Relisted). left (relisting y n t.sessions) y.answer) e ∙ seat-left x (Count x.count) l
+  pub relisted-left : (d : Result Session Refusal) (x : Session) → n < 16 → d ≡ Ok x
+      → left (relisting d n t.sessions) (list_answer d) ≡ outcome (reseated t n x) bs (numbers (x.count ∷ []))
+  relisted-left d x l e =
+      ap (λ (y : Result Session Refusal). left (relisting y n t.sessions) (list_answer y)) e ∙ seat-left x (Ok (Count x.count)) l
 
-  pub freed-left : (d : Freed) (a : Answer) → n < 16 → d ≡ frees a
-      → left (freeing d n t.sessions) d.answer ≡ outcome (reseated t n freed) bs (said a)
-  unfolding frees freed_at listed_back
-  freed-left d a l e = ap (λ (y : Freed). left (freeing y n t.sessions) y.answer) e ∙ seat-left freed a l
+  pub freed-left : (d : Result Answer Refusal) (a : Answer) → n < 16 → d ≡ Ok a
+      → left (freeing d n t.sessions) d ≡ outcome (reseated t n freed) bs (said (Ok a))
+  freed-left d a l e = ap (λ (y : Result Answer Refusal). left (freeing y n t.sessions) y) e ∙ seat-left freed (Ok a) l
 
 -- ---- a refusal, and no refusal
 
 pub refused-outcome : (t : Tables) (bs : List (List ℕ)) (c : Call) (o : Outcome) (why : Refusal) (settled : List Session → List Session)
-    (a : Answer)
-    → refusal_at t c ≡ some (number_of why) → Idle settled a (No why)
+    (a : Result Answer Refusal)
+    → refusal_at t c ≡ some (number_of why) → Idle settled a (Err why)
     → outcome (beside t (settled t.sessions)) bs (said a) ≡ unless (refusal_at t c) t bs o
 unfolding unless
 refused-outcome t bs c o why settled a r i =
-    idle-left t bs 0 settled a (No why) i ∙ ap (λ (w : Option ℕ). unless w t bs o) (sym r)
+    idle-left t bs 0 settled a (Err why) i ∙ ap (λ (w : Option ℕ). unless w t bs o) (sym r)
 
 pub accepted-outcome : (t : Tables) (bs : List (List ℕ)) (c : Call) (o : Outcome) → refusal_at t c ≡ none → unless (refusal_at t c) t bs o ≡ o
 unfolding unless
@@ -118,8 +116,8 @@ accepted t c e = go (roomy t) (sound t) e
 -- ---- a core that a test of `enter` refuses
 
 module _ (clock slots words heads log changes : List ℕ) (bs : List (List ℕ)) (x : Seat) (n : ℕ) (c : Call) (o : Tables → Outcome)
-    (test : asked.Test) (why : Refusal) (h : test ≡ asks.No why) (settled : List Session → List Session) (a : Answer)
-    (i : Idle settled a (No why)) where
+    (test : Result (Unit {0}) Refusal) (why : Refusal) (h : test ≡ Err why) (settled : List Session → List Session) (a : Result Answer Refusal)
+    (i : Idle settled a (Err why)) where
   abbrev lent : List Session → Tables
   lent = tables clock slots words heads log changes
 

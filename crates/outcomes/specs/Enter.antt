@@ -1,19 +1,18 @@
 -- The refusals that the calls share, as the code judges them from the number tables and a seat.
-use Rattle.std.specs.Prelude.{Bool, not, cond, ◌&&◌, List, [], ◌∷◌, ℕ, eqb, leb}
+use Rattle.std.specs.Prelude.{Result, Ok, Err, Bool, not, cond, ◌&&◌, List, [], ◌∷◌, ℕ, eqb, leb}
 use Rattle.std.proofs.Math.Option.{Option, none, some}
 use Rattle.rules.specs.Refusals.{Test, first_of, no_session}
 use Rattle.tables.specs.Cells.{values_in, stamp_in}
+use Rattle.tables.specs.declared.refusal.Refusal.{Refusal}
 use Rattle.tables.specs.Refusals.{number_of}
 use Rattle.tables.specs.Room.{room_for}
 use Rattle.damage.specs.Numbers.{numbers_fit}
 use Rattle.lent.specs.declared.seats.Seat.{Seat}
-use Rattle.outcomes.specs.declared.enter.Test as asked
-use Rattle.outcomes.specs.declared.enter.Test.TheVariants.{Passed, No}
 
 -- the number of a test that did not pass
-abbrev pub why_of : asked.Test → Option ℕ
-why_of Passed = none
-why_of (No why) = some (number_of why)
+abbrev pub why_of : Result (Unit {0}) Refusal → Option ℕ
+why_of (Ok _) = none
+why_of (Err why) = some (number_of why)
 
 -- 1, 2, then some of the rules' tests
 unfoldable pub entered_by : List ℕ → List ℕ → List ℕ → List ℕ → List ℕ → List ℕ → ℕ → Bool → List Test → Option ℕ

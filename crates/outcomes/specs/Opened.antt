@@ -1,6 +1,7 @@
 -- What a part of a core knows once the core is let in, and what it promises.
-use Rattle.std.specs.Prelude.{◌≡◌, true, List, [], ℕ, ◌≤◌, ◌<◌, replicate}
+use Rattle.std.specs.Prelude.{Result, ◌≡◌, true, List, [], ℕ, ◌≤◌, ◌<◌, replicate}
 use Rattle.tables.specs.declared.session.Session.{Session}
+use Rattle.tables.specs.declared.refusal.Refusal.{Refusal}
 use Rattle.tables.specs.Cells.{Tables, tables, stamp_in}
 use Rattle.tables.specs.Sessions.{freed}
 use Rattle.tables.specs.Room.{roomy}
@@ -29,11 +30,11 @@ pub record OpenIn (t : Tables) (n : ℕ) (x : Session) : Type 0 where
   pub live-one : x.live ≡ 1
 
 -- What a part of a core promises where the session is open.
-abbrev pub Settles : (List Session → Tables) → (List Session → Tables) → Session → ℕ → (List Session → List Session) → Answer
+abbrev pub Settles : (List Session → Tables) → (List Session → Tables) → Session → ℕ → (List Session → List Session) → Result Answer Refusal
     → (Tables → Outcome) → Type 0
 Settles before after x n settled a call = Leaves (λ ts. OpenIn (before ts) n x) before after [] settled a call
 
 -- the same of a part that has no table: of any tables and any place
-abbrev pub SettlesAny : Session → (ℕ → List Session → List Session) → Answer → (Tables → ℕ → Outcome) → Type 0
+abbrev pub SettlesAny : Session → (ℕ → List Session → List Session) → Result Answer Refusal → (Tables → ℕ → Outcome) → Type 0
 SettlesAny x settled a call =
     (n : ℕ) (t : Tables) → OpenIn t n x → outcome (beside t (settled n t.sessions)) [] (said a) ≡ call t n

@@ -1,12 +1,13 @@
 -- What an answer says: document 01's number and values for each of its cases.
-use Rattle.std.specs.Prelude.{Bool, List, [], ◌∷◌, ℕ}
+use Rattle.std.specs.Prelude.{Bool, List, [], ◌∷◌, ℕ, Result, Ok, Err}
 use Rattle.std.proofs.Math.Option.{Option, none, some}
+use Rattle.tables.specs.declared.refusal.Refusal.{Refusal}
 use Rattle.tables.specs.Refusals.{number_of}
 use Rattle.history.specs.Read.{standing_of}
 use Rattle.outcomes.specs.declared.answers.Place.{Place}
 use Rattle.outcomes.specs.declared.answers.Place.TheVariants.{Slot, Scratch}
 use Rattle.outcomes.specs.declared.answers.Answer.{Answer}
-use Rattle.outcomes.specs.declared.answers.Answer.TheVariants.{No, Count, At, Read, Listed}
+use Rattle.outcomes.specs.declared.answers.Answer.TheVariants.{Count, At, Read, Listed}
 
 pub data Said : Type 0 where
   -- "A refusal answers the number and nothing more"
@@ -22,9 +23,13 @@ abbrev pub place_of : Place → Option ℕ
 place_of (Slot i) = some i
 place_of Scratch = none
 
-abbrev pub said : Answer → Said
-said (No why) = no (number_of why)
-said (Count n) = numbers (n ∷ [])
-said (At s n) = numbers (s.0 ∷ n.0 ∷ [])
-said (Read x) = value (standing_of x)
-said (Listed n d p) = words n d (place_of p)
+-- an accepted call's
+abbrev pub numbers_of : Answer → Said
+numbers_of (Count n) = numbers (n ∷ [])
+numbers_of (At s n) = numbers (s.0 ∷ n.0 ∷ [])
+numbers_of (Read x) = value (standing_of x)
+numbers_of (Listed n d p) = words n d (place_of p)
+
+abbrev pub said : Result Answer Refusal → Said
+said (Err why) = no (number_of why)
+said (Ok a) = numbers_of a

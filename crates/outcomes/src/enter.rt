@@ -3,44 +3,26 @@ ghost use Rattle.std.specs.Prelude.{◌≡◌};
 ghost use Rattle.outcomes.specs.Enter.{why_of, placed_by, in_reach, opened_by, valued_by};
 
 use lent::Seat;
-use tables::{Refusal, Row, Stamp, Value};
-
-// Whether a call may go on, or why not.
-#[derive(Clone, Copy)]
-pub enum Test {
-    Passed,
-    No(Refusal),
-}
+use tables::{NumberTables, Refusal, Row, Stamp, Value};
 
 // 1, 2 and 4: room, damage, the session's number.
-pub fn placed(
-    clock: &[u32],
-    slots: &[u32],
-    words: &[u64],
-    heads: &[u32],
-    log: &[u32],
-    changes: &[u32],
-    places: usize,
-    fit: bool,
-    n: u64,
-) -> Test
-    ensures { why_of result ≡ placed_by
-        clock.now slots.now words.now heads.now log.now changes.now
-        places fit n }
+pub fn placed(t: NumberTables, places: usize, fit: bool, n: u64) -> Result<(), Refusal>
+    ensures { why_of result ≡ placed_by t.entry.clock.now t.entry.slots.now t.entry.words.now t.entry.heads.now
+        t.entry.log.now t.entry.changes.now places fit n }
 {
-    if !damage::room(clock, slots, words, heads, log, changes, places) {
-        return Test::No(Refusal::NoRoom);
+    if !damage::room(t, places) {
+        return Err(Refusal::NoRoom);
     }
     if !fit {
-        return Test::No(Refusal::Damaged);
+        return Err(Refusal::Damaged);
     }
-    if !damage::numbers_fit(clock, slots, words, heads, log, changes) {
-        return Test::No(Refusal::Damaged);
+    if !damage::numbers_fit(t) {
+        return Err(Refusal::Damaged);
     }
     if 15 < n {
-        return Test::No(Refusal::NoSession);
+        return Err(Refusal::NoSession);
     }
-    Test::Passed
+    Ok(())
 }
 
 // Whether a session's numbers are within reach: its start not after the stamp, at most 2,048 rows and 32 entries.
@@ -52,72 +34,31 @@ fn in_reach(stamp: Stamp, start: Stamp, rows: Row, count: u32) -> bool
 
 // The same, and 5: the session is open. A session that no undamaged tables have is damage: a seat that was made of the tables
 // never comes to that.
-pub fn opened(
-    clock: &[u32],
-    slots: &[u32],
-    words: &[u64],
-    heads: &[u32],
-    log: &[u32],
-    changes: &[u32],
-    seat: Seat,
-    n: u64,
-) -> Test
-    ensures { why_of result ≡ opened_by
-        clock.now slots.now words.now heads.now log.now changes.now
-        seat n }
+pub fn opened(t: NumberTables, seat: Seat, n: u64) -> Result<(), Refusal>
+    ensures { why_of result ≡ opened_by t.entry.clock.now t.entry.slots.now t.entry.words.now t.entry.heads.now
+        t.entry.log.now t.entry.changes.now seat n }
 {
-    let live = seat.session.live;
-    let start = seat.session.start;
-    let rows = seat.session.rows;
-    let count = seat.session.count;
-    let test = placed(
-        clock,
-        slots,
-        words,
-        heads,
-        log,
-        changes,
-        seat.places,
-        seat.fit,
-        n,
-    );
-    let Test::Passed = test else {
-        return test;
-    };
-    if live != 1 {
-        return Test::No(Refusal::NotOpen);
+    placed(t, seat.places, seat.fit, n)?;
+    let s = seat.session;
+    if s.live != 1 {
+        return Err(Refusal::NotOpen);
     }
-    let c = tables::clock_of(clock);
-    if !in_reach(c.stamp, start, rows, count) {
-        return Test::No(Refusal::Damaged);
+    let c = tables::clock_of(t.clock);
+    if !in_reach(c.stamp, s.start, s.rows, s.count) {
+        return Err(Refusal::Damaged);
     }
-    Test::Passed
+    Ok(())
 }
 
 // The same, and 6: the value is below C.
-pub fn valued(
-    clock: &[u32],
-    slots: &[u32],
-    words: &[u64],
-    heads: &[u32],
-    log: &[u32],
-    changes: &[u32],
-    seat: Seat,
-    n: u64,
-    v: Value,
-) -> Test
-    ensures { why_of result ≡ valued_by
-        clock.now slots.now words.now heads.now log.now changes.now
-        seat n v.0 }
+pub fn valued(t: NumberTables, seat: Seat, n: u64, v: Value) -> Result<(), Refusal>
+    ensures { why_of result ≡ valued_by t.entry.clock.now t.entry.slots.now t.entry.words.now t.entry.heads.now
+        t.entry.log.now t.entry.changes.now seat n v.0 }
 {
-    let test = opened(clock, slots, words, heads, log, changes, seat, n);
-    let Test::Passed = test else {
-        return test;
-    };
-    let c = tables::clock_of(clock);
-    let values = c.values;
-    if values.0 <= v.0 {
-        return Test::No(Refusal::NoValue);
+    opened(t, seat, n)?;
+    let c = tables::clock_of(t.clock);
+    if c.values.0 <= v.0 {
+        return Err(Refusal::NoValue);
     }
-    Test::Passed
+    Ok(())
 }

@@ -7,10 +7,7 @@ mod enter;
 mod lists;
 mod narrow;
 
-pub use answers::{
-    Answer, Begun, Freed, Place, Relisted, made_free, none_freed, none_opened, not_put_back,
-    opened_at, put_back,
-};
-pub use enter::{Test, opened, placed, valued};
+pub use answers::{Answer, Begun, Place};
+pub use enter::{opened, placed, valued};
 pub use lists::{inserts, spot_of, target_of};
 pub use narrow::{row_of, value_of};

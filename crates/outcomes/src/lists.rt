@@ -5,7 +5,6 @@ ghost use Rattle.tables.specs.Meaning.{target_of, entries};
 ghost use Rattle.history.specs.Read.{standing_of};
 ghost use Rattle.outcomes.specs.Calls.{spot_of};
 
-use history::Standing;
 use tables::{Row, Session, Value};
 
 // Where in the list a row stands: its entry, or the count where it is not listed.
@@ -13,25 +12,23 @@ pub fn spot_of(s: Session, row: Row) -> usize
     requires { s.count ≤ 32 }
     ensures { result ≡ spot_of s row.0 }
 {
-    let n = bits::wide(s.count);
-    let mut i: usize = 0;
-    while i < n {
-        if bits::long(s.at[i]) == row.0 {
+    let n = s.count as usize;
+    for i in 0..n {
+        if u32::from(s.at[i]) == row.0 {
             return i;
         }
-        i += 1;
     }
     n
 }
 
 // A target cell as what a row holds.
-pub fn target_of(to: u8) -> Standing
+pub fn target_of(to: u8) -> Option<Value>
     ensures { standing_of result ≡ target_of to }
 {
-    if to == 255 {
-        return Standing::Absent;
+    match to {
+        255 => None,
+        v => Some(Value(u32::from(v))),
     }
-    Standing::Holds(Value(bits::wide_byte(to)))
 }
 
 // How many entries of the list are inserts.
@@ -39,14 +36,11 @@ pub fn inserts(s: Session) -> u32
     requires { s.count ≤ 32 }
     ensures { result ≡ length (rules.inserts (entries s)) }
 {
-    let n = bits::wide(s.count);
-    let mut k: u32 = 0;
-    let mut i: usize = 0;
-    while i < n {
+    let mut k = 0;
+    for i in 0..s.count as usize {
         if s.at[i] == tables::NEW {
             k += 1;
         }
-        i += 1;
     }
     k
 }

@@ -8,10 +8,7 @@ use tables::{Row, Value};
 fn narrow(n: u64) -> u32
     ensures { result ≡ narrowed n }
 {
-    if 4294967295 < n {
-        return 4294967295;
-    }
-    n as u32
+    u32::try_from(n).unwrap_or(u32::MAX)
 }
 
 // The row of a number: 7 is given for one that fits no row.

@@ -1,53 +1,37 @@
 // Query, the picker, and read.
 ghost use Rattle.std.specs.Prelude.{◌≡◌, [], ◌∷◌};
-ghost use Rattle.tables.specs.Cells.{tables};
+ghost use Rattle.tables.specs.Shown.{shown};
 ghost use Rattle.outcomes.specs.Seats.{Serves, untouched};
 ghost use Rattle.outcomes.specs.Calls.{read_of};
 ghost use Rattle.outcomes.specs.Query.{query_of, picked_from};
 ghost use Rattle.outcomes.specs.Said.{place_of};
 
 use lent::Seat;
-use outcomes::{Answer, Place, Test};
-use tables::{Refusal, Row, Value};
+use outcomes::{Answer, Place};
+use tables::{NumberTables, Refusal, Row, Value};
 
 // Query: the slot's own words where no row is flipped, the scratch's otherwise.
 pub fn query_in(
-    clock: &[u32],
-    slots: &[u32],
-    words: &[u64],
-    heads: &[u32],
-    log: &[u32],
-    changes: &[u32],
+    t: NumberTables,
     scratch: &mut [u64],
     seat: Seat,
     n: u64,
     v: Value,
     threshold: u64,
-) -> Answer
-    ensures { Serves
-        (tables clock.now slots.now words.now heads.now log.now
-        changes.now)
-        (tables clock.now slots.now words.now heads.now log.now
-        changes.now) (scratch.new ∷ []) seat n untouched result
-        (λ t. query_of t scratch.old n v.0 threshold) }
+) -> Result<Answer, Refusal>
+    ensures { Serves (shown t.entry) (shown t.entry) (scratch.new ∷ []) seat n untouched result
+        (λ all. query_of all scratch.old n v.0 threshold) }
 {
-    let s = seat.session;
-    let start = s.start;
-    let test = outcomes::valued(clock, slots, words, heads, log, changes, seat, n, v);
-    match test {
-        Test::No(why) => Answer::No(why),
-        Test::Passed => {
-            if scratch.len() < 32 {
-                return Answer::No(Refusal::ShortScratch);
-            }
-            let found = history::query_at(slots, words, heads, log, changes, scratch, start, v);
-            let flips = found.flips;
-            if flips == 0 {
-                return Answer::Listed(0, false, Place::Slot(found.slot));
-            }
-            Answer::Listed(flips, threshold < (flips as u64), Place::Scratch)
-        }
+    outcomes::valued(t, seat, n, v)?;
+    if scratch.len() < 32 {
+        return Err(Refusal::ShortScratch);
     }
+    let found = history::query_at(t, scratch, seat.session.start, v);
+    if found.flips == 0 {
+        return Ok(Answer::Listed(0, false, Place::Slot(found.slot)));
+    }
+    let due = threshold < u64::from(found.flips);
+    Ok(Answer::Listed(found.flips, due, Place::Scratch))
 }
 
 // The words that a query answered: the slot's own, or the scratch's first 32; an empty part where they were not lent.
@@ -76,36 +60,14 @@ pub fn picked<'a>(words: &'a [u64], scratch: &'a [u64], place: Place) -> &'a [u6
 }
 
 // Read: the row's value at the session's start, or that it is absent.
-pub fn read_in(
-    clock: &[u32],
-    slots: &[u32],
-    words: &[u64],
-    heads: &[u32],
-    log: &[u32],
-    changes: &[u32],
-    seat: Seat,
-    n: u64,
-    row: Row,
-) -> Answer
-    ensures { Serves
-        (tables clock.now slots.now words.now heads.now log.now
-        changes.now)
-        (tables clock.now slots.now words.now heads.now log.now
-        changes.now) [] seat n untouched result (λ t. read_of t n row.0) }
+pub fn read_in(t: NumberTables, seat: Seat, n: u64, row: Row) -> Result<Answer, Refusal>
+    ensures { Serves (shown t.entry) (shown t.entry) [] seat n untouched result (λ all. read_of all n row.0) }
 {
+    outcomes::opened(t, seat, n)?;
     let s = seat.session;
-    let start = s.start;
-    let rows = s.rows;
-    let test = outcomes::opened(clock, slots, words, heads, log, changes, seat, n);
-    match test {
-        Test::No(why) => Answer::No(why),
-        Test::Passed => {
-            if rows.0 <= row.0 {
-                return Answer::No(Refusal::NoRow);
-            }
-            let c = tables::clock_of(clock);
-            let values = c.values;
-            Answer::Read(history::read_at(slots, words, heads, log, changes, values, start, row))
-        }
+    if s.rows.0 <= row.0 {
+        return Err(Refusal::NoRow);
     }
+    let c = tables::clock_of(t.clock);
+    Ok(Answer::Read(history::read_at(t, c.values, s.start, row)))
 }
