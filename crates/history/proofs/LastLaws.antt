@@ -9,6 +9,7 @@ use Prim.Native.Nat.{ℕ, zero, suc, ◌+◌, ◌-◌, ◌≤◌, ◌<◌}
 use native.Mathlib.Omega.{arith}
 use native.Mathlib.Numerals.{add-one}
 use borrow.Author.Tests.{eq-eqb, ne_eqb, lt-ltb, le-ltb, ltb-true}
+use Rattle.std.specs.Prelude.{Some, None}
 use lib.Dec.{eqb, ltb}
 use lib.ListN.{replicate}
 use Rattle.bits.proofs.Cases.{lt-cases}
@@ -27,8 +28,7 @@ use Rattle.tables.specs.Cells.{change_row, change_set}
 use Rattle.tables.specs.Meaning.{change_at}
 use Rattle.tables.specs.Stretch.{stretch}
 use Rattle.tables.proofs.Stretch.{stretch-none, stretch-step, stretch-more, stretch-join}
-use Rattle.history.specs.declared.changes.Last.{Last}
-use Rattle.history.specs.Last.{last_place, last_set, last_of}
+use Rattle.history.specs.Last.{place_of, set_of, change_before, last_place, last_set, last_of}
 use Rattle.history.specs.Flips.{flipped_in, marked, RowsLow}
 
 module _ (changes : List ℕ) (row : ℕ) where
@@ -106,21 +106,18 @@ module _ (changes : List ℕ) (row : ℕ) where
         let back : e ≡ e - 64 + 64 = omega arith in
         i ∙ ap (last_place changes row) back ∙ place-skip (e - 64) 64 (sym q ∙ z)
 
-    one-back : 0 < e → w ≡ cond (eqb (change_row changes (e - 1)) row) e (last_place changes row (e - 1))
-    one-back h =
-        let back : e ≡ e - 1 + 1 = omega arith in
-        i ∙ ap (last_place changes row) back ∙ place-step (e - 1)
-        ∙ ap (λ (k : ℕ). cond (eqb (change_row changes (e - 1)) row) k (last_place changes row (e - 1))) (sym back)
+    pub place_none : e ≤ 0 → 0 ≡ w
+    unfolding last_place
+    place_none h = let z : e ≡ 0 = omega arith in sym (i ∙ ap (last_place changes row) z)
 
-    pub place_here : 0 < e → change_row changes (e - 1) ≡ row → e ≡ w
+    one-back : 0 < e → w ≡ cond (eqb (change_row changes (e - 1)) row) (e - 1 + 1) (last_place changes row (e - 1))
+    one-back h = let back : e ≡ e - 1 + 1 = omega arith in i ∙ ap (last_place changes row) back ∙ place-step (e - 1)
+
+    pub place_here : 0 < e → change_row changes (e - 1) ≡ row → e - 1 + 1 ≡ w
     place_here h q = sym (one-back h ∙ rw (eq-eqb (change_row changes (e - 1)) row q))
 
     pub place-past : 0 < e → (change_row changes (e - 1) ≡ row → ⊥) → w ≡ last_place changes row (e - 1)
     place-past h n = one-back h ∙ rw (ne_eqb (change_row changes (e - 1)) row n)
-
-    pub place_none : e ≤ 0 → 0 ≡ w
-    unfolding last_place
-    place_none h = let z : e ≡ 0 = omega arith in sym (i ∙ ap (last_place changes row) z)
 
   -- ---- its flip set
 
@@ -151,23 +148,42 @@ module _ (changes : List ℕ) (row : ℕ) where
       go (inr h) ih = last_more a n h ∙ rw ih (at (eqb (change_row changes n) row) h)
 
   -- what the code finds, where a change names the row and where none does
-  module _ (to at : ℕ) (e : at ≡ last_place changes row to) where
-    pub last_none : at ≡ 0 → ◌≡◌ {A = Last} (record { at = 0; set = 0 }) (last_of changes to row)
-    unfolding last_of last_set
-    last_none z = let p : last_place changes row to ≡ 0 = sym e ∙ z in rw (last-at 0 to, p)
+  pub last_none : (to : ℕ) → 0 ≡ last_place changes row to → None ≡ last_of changes to row
+  unfolding last_of
+  last_none to z = rw (← z)
 
-    pub place-fits : (at ≡ 0 → ⊥) → to ≤ 2048 → at - 1 < 2048
-    place-fits n h = omega (arith, place-le to)
+  module _ (to at : ℕ) (e : at + 1 ≡ last_place changes row to) where
+    pub place-fits : to ≤ 2048 → at < 2048
+    place-fits h = omega (arith, place-le to)
 
-    pub last_some : (set : ℕ) → (at ≡ 0 → ⊥) → set ≡ change_set changes (at - 1)
-        → ◌≡◌ {A = Last} (record { at = at; set = set }) (last_of changes to row)
+    pub last_some : (set : ℕ) → set ≡ change_set changes at → Some (record { at = at; set = set }) ≡ last_of changes to row
     unfolding last_of last_set
-    last_some set n q = rw (last-at 0 to, ← e, lt-ltb 0 at (omega arith), q)
+    last_some set q =
+        let z : last_place changes row to ≡ suc at = omega arith in
+        let y : suc at - 1 ≡ at = omega arith in
+        rw (last-at 0 to, z, lt-ltb 0 (suc at) (omega arith), y, q)
+
+  -- its place and its set
+  place_of-last : (n : ℕ) → place_of (last_of changes n row) ≡ last_place changes row n
+  unfolding last_of
+  place_of-last n = go (last_place changes row n) (last_set changes 0 n row)
+    where
+      go : (k set : ℕ) → place_of (change_before k set) ≡ k
+      go zero set = refl
+      go (suc k) set = add-one k
+
+  pub set_of-last : (n : ℕ) → set_of (last_of changes n row) ≡ last_set changes 0 n row
+  unfolding last_of last_set
+  set_of-last n = go (last_place changes row n) (last_naming (cut 0 n) row) (last-at 0 n)
+    where
+      go : (k : ℕ) (o : Option ℕ) → o ≡ set_from 0 k → set_of (change_before k (or_empty o)) ≡ or_empty o
+      go zero o e = sym (ap or_empty e)
+      go (suc k) o e = refl
 
   -- the last change of a stretch, from that of all changes up to its end
-  pub last-since : (a n : ℕ) → last_naming (cut a n) row ≡ cond (ltb a (last_of changes n row).at) (some (last_of changes n row).set) none
-  unfolding last_of last_set
-  last-since a n = last-at a n ∙ go (ltb a (last_place changes row n)) refl
+  pub last-since : (a n : ℕ) → last_naming (cut a n) row ≡ cond (ltb a (place_of (last_of changes n row))) (some (set_of (last_of changes n row))) none
+  unfolding last_set
+  last-since a n = rw (place_of-last n, set_of-last n, last-at a n) (go (ltb a (last_place changes row n)) refl)
     where
       go : (t : Bool) → ltb a (last_place changes row n) ≡ t
           → cond t (some (change_set changes (last_place changes row n - 1))) none ≡ cond t (some (or_empty (last_naming (cut 0 n) row))) none

@@ -6,7 +6,6 @@ use Prim.Native.Nat.{ℕ, ◌+◌, ◌-◌, ◌*◌, ◌≤◌, ◌<◌}
 use native.Mathlib.Omega.{arith}
 use borrow.Author.Tests.{ne_eqb}
 use lib.ListN.{length, take, drop}
-use lib.Seq.{length-take-le}
 use Rattle.bits.specs.Bit.{xorb}
 use Rattle.bits.specs.Part.{part}
 use Rattle.bits.proofs.PartLaws.{part-lent}
@@ -32,25 +31,19 @@ module _ (words : List ℕ) (slot : ℕ) where
   unfolding slot_words part
   slot-part = part-lent (32 * slot) 32 words
 
-  -- what `slot_has` knows at its end
-  pub slot-bit : (row q : ℕ) (r : Bool) → q ≡ row → r ≡ bit_at (take (32 * slot + 32 - 32 * slot) (drop (32 * slot) words)) q
-      → r ≡ bit_at (slot_words words slot) row
-  slot-bit row q r e b = b ∙ ap₂ bit_at slot-part e
-
   -- the lengths that `turn_over` shows, and what it knows at its end
-  module _ (scratch mask : List ℕ) (h : slot < 96) (l : 3072 ≤ length words) (k : 32 ≤ length scratch) where
-    pub turn-length : length (take (32 * slot + 32 - 32 * slot) (drop (32 * slot) words)) ≡ length (take 32 scratch)
-    turn-length = ap length slot-part ∙ length-slot_words words slot h l ∙ sym (length-take-le 32 scratch k)
+  module _ (ws : List ℕ) (e : ws ≡ slot_words words slot) (h : slot < 96) (l : 3072 ≤ length words) where
+    pub slot-length : length ws ≡ 32
+    slot-length = ap length e ∙ length-slot_words words slot h l
 
-    pub turned : (d : List ℕ) → Words words → Words mask → length mask ≡ 32
-        → d ≡ xor_words (take (32 * slot + 32 - 32 * slot) (drop (32 * slot) words)) mask
+    pub turned : (scratch mask d : List ℕ) → Words words → Words mask → length mask ≡ 32 → d ≡ xor_words ws mask
         → d ++ drop 32 scratch ≡ front_filled (λ r. xorb (bit_at (slot_words words slot) r) (bit_at mask r)) scratch
     unfolding front_filled
-    turned d w m n e =
+    turned scratch mask d w m n q =
         let f : ℕ → Bool = λ r. xorb (bit_at (slot_words words slot) r) (bit_at mask r) in
         let c : length (slot_words words slot) ≡ 32 = length-slot_words words slot h l in
         let x : d ≡ vec f 32 =
-        e ∙ ap₂ xor_words slot-part (sym (vec-bits mask m) ∙ ap (vec (bit_at mask)) (n ∙ sym c)) ∙ xor-vec (slot_words words slot)
+        q ∙ ap₂ xor_words e (sym (vec-bits mask m) ∙ ap (vec (bit_at mask)) (n ∙ sym c)) ∙ xor-vec (slot_words words slot)
         (bit_at mask) (words-slot_words words slot w) ∙ ap (vec f) c in
         ap₂ (λ (y : List ℕ) (j : ℕ). y ++ drop j scratch) x (sym (length-vec f 32))
 

@@ -2,10 +2,15 @@
 use mathlib.Core.Path.{◌≡◌, refl, sym, ap, ap₂, ◌∙◌}
 use mathlib.Core.Bool.{Bool, true, false, not, ◌&&◌, cond, beq}
 use mathlib.Core.Option.{Option, none, some}
+use Rattle.std.specs.Prelude as kit
+use Rattle.std.specs.Prelude.{Some, None}
 use mathlib.Core.List.{List}
+use mathlib.Core.Logic.{◌⊎◌, inl, inr}
 use Prim.Native.Nat.{ℕ, ◌+◌, ◌≤◌, ◌<◌}
 use native.Mathlib.Omega.{arith}
-use lib.Dec.{ltb}
+use borrow.Author.Tests.{le-leb, lt-leb, lt-ltb, le-ltb}
+use lib.Dec.{leb, ltb}
+use Rattle.bits.proofs.Cases.{lt-cases}
 use Rattle.bits.specs.Bit.{xorb, bit}
 use Rattle.bits.proofs.BitLaws.{bit-of-zero}
 use Rattle.bits.proofs.RowLaws.{smallest-zero, smallest-past, smallest-here, smallest-ext}
@@ -15,7 +20,7 @@ use Rattle.tables.specs.Cells.{slot_words, end_at}
 use Rattle.history.specs.declared.chain.Base.{Base}
 use Rattle.history.specs.declared.changes.Last.{Last}
 use Rattle.history.specs.Version.{base_seen, Based}
-use Rattle.history.specs.Last.{last_set, last_of}
+use Rattle.history.specs.Last.{place_of, set_of, last_set, last_of}
 use Rattle.history.specs.Flips.{flipped_in}
 use Rattle.history.specs.Query.{queried_since, queried_at}
 use Rattle.history.specs.Read.{read_cells, last_flips, has_after, read_after, Readable}
@@ -23,10 +28,19 @@ use Rattle.history.proofs.LastLaws.{last-since}
 
 -- ---- one value
 
--- what `flipped_since` knows at its end
-pub since-is : (last : Last) (from v : ℕ) (t : Bool) → t ≡ bit last.set v → ltb from last.at && t ≡ last_flips last from v
-unfolding last_flips
-since-is last from v t e = ap (λ (b : Bool). ltb from last.at && b) e
+-- what `flipped_since` knows at its ends
+module _ (last : kit.Option Last) (from v : ℕ) where
+  pub since-some : (l : Last) (t : Bool) → last ≡ Some l → t ≡ bit l.set v → leb from l.at && t ≡ last_flips last from v
+  unfolding last_flips
+  since-some l t q e = rw (q, e) (ap (λ (b : Bool). b && bit l.set v) (below from l.at (lt-cases l.at from)))
+    where
+      below : (m n : ℕ) → (n < m) ⊎ (m ≤ n) → leb m n ≡ ltb m (n + 1)
+      below m n (inl h) = rw (lt-leb m n h, le-ltb m (n + 1) (omega arith))
+      below m n (inr h) = rw (le-leb m n h, lt-ltb m (n + 1) (omega arith))
+
+  pub since-none : last ≡ None → false ≡ last_flips last from v
+  unfolding last_flips
+  since-none q = rw (q, le-ltb from 0 (omega arith))
 
 differs : (a b : Bool) → not (beq a b) ≡ xorb a b
 differs true true = refl
@@ -35,7 +49,7 @@ differs false true = refl
 differs false false = refl
 
 -- what `row_has` knows at its end
-pub has-is : (slots words heads log : List ℕ) (s row v : ℕ) (last : Last) (base : Base) (on off : Bool)
+pub has-is : (slots words heads log : List ℕ) (s row v : ℕ) (last : kit.Option Last) (base : Base) (on off : Bool)
     → base ≡ base_seen slots heads log s v
     → on ≡ bit_at (slot_words words base.slot) row → off ≡ last_flips last base.from v
     → not (beq on off) ≡ has_after (base_seen slots heads log s v) words row last v
@@ -45,7 +59,7 @@ has-is slots words heads log s row v last base on off b p q =
 
 -- ---- the loop over the values: none yet, this one, the next, all
 
-module _ (slots words heads log : List ℕ) (values s row : ℕ) (last : Last) where
+module _ (slots words heads log : List ℕ) (values s row : ℕ) (last : kit.Option Last) where
   pub value-based : (v : ℕ) → Readable slots words heads log values s → v < values → Based slots heads log s v
   value-based v f l = f.each-based v l
 
@@ -74,9 +88,9 @@ module _ (slots words heads log : List ℕ) (values s row : ℕ) (last : Last) w
 last-flips : (changes : List ℕ) (from to v row : ℕ) → last_flips (last_of changes to row) from v ≡ flipped_in changes from to v row
 unfolding last_flips flipped_in last_set
 last-flips changes from to v row =
-    go (ltb from (last_of changes to row).at) ∙ ap (λ (o : Option ℕ). bit (or_empty o) v) (sym (last-since changes row from to))
+    go (ltb from (place_of (last_of changes to row))) ∙ ap (λ (o : Option ℕ). bit (or_empty o) v) (sym (last-since changes row from to))
   where
-    go : (t : Bool) → t && bit (last_of changes to row).set v ≡ bit (or_empty (cond t (some (last_of changes to row).set) none)) v
+    go : (t : Bool) → t && bit (set_of (last_of changes to row)) v ≡ bit (or_empty (cond t (some (set_of (last_of changes to row))) none)) v
     go true = refl
     go false = sym (bit-of-zero v)
 
@@ -90,7 +104,7 @@ after-cells slots words heads log changes values s row =
     (last-flips changes (base_seen slots heads log s v).from (end_at log s) v row))
 
 -- what `read_at` knows at its end
-pub read_is : (slots words heads log changes : List ℕ) (values s row to : ℕ) (last : Last) (o : Option ℕ) → to ≡ end_at log s
+pub read_is : (slots words heads log changes : List ℕ) (values s row to : ℕ) (last : kit.Option Last) (o : Option ℕ) → to ≡ end_at log s
     → last ≡ last_of changes to row
     → o ≡ read_after slots words heads log values s row last → o ≡ read_cells slots words heads log changes values s row
 read_is slots words heads log changes values s row to last o e q p =

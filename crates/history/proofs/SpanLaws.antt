@@ -1,11 +1,11 @@
 -- A span step by step: the rows of one value merged, and the loop over the values.
-use mathlib.Core.Path.{◌≡◌, sym, ap, ap₂, ◌∙◌}
+use mathlib.Core.Path.{◌≡◌, sym, ap, ap₂, subst, ◌∙◌}
 use mathlib.Core.Bool.{Bool, ◌||◌}
 use mathlib.Core.List.{List}
-use Prim.Native.Nat.{ℕ, suc, ◌+◌, ◌-◌, ◌*◌, ◌≤◌, ◌<◌}
+use Prim.Native.Nat.{ℕ, suc, ◌+◌, ◌-◌, ◌≤◌, ◌<◌}
 use native.Mathlib.Numerals.{add-one}
 use native.Mathlib.Omega.{arith}
-use lib.ListN.{length, take, drop, replicate}
+use lib.ListN.{length, replicate}
 use Rattle.bits.specs.Any.{any_below, any_from}
 use Rattle.bits.specs.Bit.{xorb}
 use Rattle.bits.specs.Vec.{vec}
@@ -13,13 +13,11 @@ use Rattle.bits.proofs.VecLaws.{length-vec}
 use Rattle.bits.proofs.VecOps.{merge-vec, merge-more, merge_none}
 use Rattle.bits.specs.Words.{bit_at, Words, merged_words}
 use Rattle.tables.specs.Cells.{slot_words, end_at}
-use Rattle.tables.proofs.Slots.{words-slot_words}
 use Rattle.history.specs.declared.chain.Base.{Base}
 use Rattle.history.specs.Version.{base_seen, Based}
 use Rattle.history.specs.Flips.{flipped_in}
 use Rattle.history.specs.Query.{queried_since, queried_at}
 use Rattle.history.specs.Span.{spanned_at, SpanReady}
-use Rattle.history.proofs.QueryLaws.{slot-part}
 
 -- what is the vector of a function has its length
 pub vec-long : (f : ℕ → Bool) (ws : List ℕ) → ws ≡ vec f 32 → length ws ≡ 32
@@ -51,17 +49,18 @@ module _ (slots words heads log changes : List ℕ) (s : ℕ) where
 
   -- ---- what `add_value` knows at its end
 
-  pub value-merged : (v : ℕ) (base : Base) (to : ℕ) (mask all d : List ℕ) → Words all → length all ≡ 32 → Words words
+  pub value-merged : (v : ℕ) (base : Base) (to : ℕ) (ws mask all d : List ℕ) → Words all → length all ≡ 32 → Words ws
       → base ≡ base_seen slots heads log s v → to ≡ end_at log s → mask ≡ vec (flipped_in changes base.from to v) 32
-      → d ≡ merged_words all (take (32 * base.slot + 32 - 32 * base.slot) (drop (32 * base.slot) words)) mask
+      → ws ≡ slot_words words base.slot → d ≡ merged_words all ws mask
       → d ≡ vec (λ r. bit_at all r || queried_at slots words heads log changes s v r) 32
   unfolding queried_at queried_since
-  value-merged v base to mask all d h n w b t m e =
+  value-merged v base to ws mask all d h n w b t m x e =
       let g : Base → ℕ → ℕ → Bool =
       λ x y r. bit_at all r || xorb (bit_at (slot_words words x.slot) r) (flipped_in changes x.from y v r) in
-      e ∙ ap₂ (merged_words all) (slot-part words base.slot) (m ∙ ap (vec (flipped_in changes base.from to v)) (sym n))
-      ∙ merge-vec all (slot_words words base.slot) (flipped_in changes base.from to v) h (words-slot_words words base.slot w)
-      ∙ ap (vec (g base to)) n ∙ ap₂ (λ (x : Base) (y : ℕ). vec (g x y) 32) b t
+      let y : Words (slot_words words base.slot) = subst Words x w in
+      e ∙ ap₂ (merged_words all) x (m ∙ ap (vec (flipped_in changes base.from to v)) (sym n))
+      ∙ merge-vec all (slot_words words base.slot) (flipped_in changes base.from to v) h y
+      ∙ ap (vec (g base to)) n ∙ ap₂ (λ (z : Base) (y : ℕ). vec (g z y) 32) b t
 
   -- ---- the loop over the values: none yet, one more, all
 
@@ -84,3 +83,8 @@ module _ (slots words heads log changes : List ℕ) (s : ℕ) where
   values-all a b v all h l k e =
       let z : v - a ≡ suc b - a = omega arith in
       e ∙ ap (λ (m : ℕ). vec (λ r. any_below (λ k. queried_at slots words heads log changes s (a + k) r) m) 32) z
+
+  pub values-last : (a b v : ℕ) (all d : List ℕ) → a ≤ v → v ≤ b → b ≤ v → all ≡ vec (some_of a v) 32
+      → d ≡ vec (λ r. bit_at all r || queried_at slots words heads log changes s v r) 32
+      → d ≡ vec (spanned_at slots words heads log changes s a b) 32
+  values-last a b v all d h l k e p = values-all a b (v + 1) d (omega arith) (omega arith) (omega arith) (values-more a v all d h e p)

@@ -7,9 +7,10 @@ use native.Mathlib.Nat.{pos_of_ne-zero}
 use native.Mathlib.Numerals.{add-one}
 use native.Mathlib.Omega.{arith}
 use borrow.Author.Tests.{ltb-true, ltb-false, leb-false, eqb-true, eqb-false, eq-eqb, ne_eqb, le-leb, lt-leb, lt-ltb, le-ltb}
+use Rattle.std.specs.Prelude.{Option, Some, None}
 use lib.Dec.{leb, ltb, eqb}
 use Rattle.rules.specs.Versions.{version_at}
-use Rattle.tables.specs.Cells.{slots_in, slot_stamp, slot_link, head_of, end_at}
+use Rattle.tables.specs.Cells.{slots_in, slot_stamp, slot_link, link_of, head_of, end_at}
 use Rattle.tables.specs.Damage.{slots_fit}
 use Rattle.tables.specs.Meaning as cells
 use Rattle.tables.specs.Meaning.{chain_from, chain_at}
@@ -50,24 +51,30 @@ module _ (slots : List ℕ) (s : ℕ) where
     unfolding version_step
     version-here h = sym (version-step i ∙ rw (le-leb (slot_stamp slots i) s (omega arith)))
 
-    module _ (link : ℕ) (q : link ≡ slot_link slots i) (h : s < b) where
+    module _ (h : s < b) where
       high : leb (slot_stamp slots i) s ≡ false
       high = lt-leb (slot_stamp slots i) s (omega arith)
 
-      pub version-first : link ≡ 0 → i ≡ version_slot slots s i
+      pub version-first : (o : Option ℕ) → o ≡ None → link_of o ≡ slot_link slots i → i ≡ version_slot slots s i
       unfolding version_step
-      version-first z = sym (version-step i ∙ rw (high, eq-eqb (slot_link slots i) 0 (sym q ∙ z)))
+      version-first o n l = sym (version-step i ∙ rw (high, eq-eqb (slot_link slots i) 0 (sym (rw n at l))))
 
-      pub version-stuck : i < link → i ≡ version_slot slots s i
-      unfolding version_step
-      version-stuck l =
-          sym (version-step i ∙ rw (high, ne_eqb (slot_link slots i) 0 (λ z. omega arith), lt-ltb i (slot_link slots i) (omega arith)))
+      module _ (o : Option ℕ) (before : ℕ) (o-is : o ≡ Some before) (l-is : link_of o ≡ slot_link slots i) where
+        q : suc before ≡ slot_link slots i
+        q = ap link_of (sym o-is) ∙ l-is
 
-      pub version-past : (r : ℕ) → (link ≡ 0 → ⊥) → link ≤ i → r ≡ version_slot slots s (link - 1) → r ≡ version_slot slots s i
-      unfolding version_step
-      version-past r n l p =
-          p ∙ ap (λ (x : ℕ). version_slot slots s (x - 1)) q
-          ∙ sym (version-step i ∙ rw (high, ne_eqb (slot_link slots i) 0 (λ z. n (q ∙ z)), le-ltb i (slot_link slots i) (omega arith)))
+        linked : eqb (slot_link slots i) 0 ≡ false
+        linked = ne_eqb (slot_link slots i) 0 (λ z. omega (arith, q))
+
+        pub version-stuck : i ≤ before → i ≡ version_slot slots s i
+        unfolding version_step
+        version-stuck l = sym (version-step i ∙ rw (high, linked, lt-ltb i (slot_link slots i) (omega (arith, q))))
+
+        pub version-past : (r : ℕ) → before < i → r ≡ version_slot slots s before → r ≡ version_slot slots s i
+        unfolding version_step
+        version-past r l p =
+            let z : slot_link slots i - 1 ≡ before = omega (arith, q) in
+            p ∙ sym (version-step i ∙ rw (high, linked, le-ltb i (slot_link slots i) (omega (arith, q)), z))
 
 -- ---- where it ends
 

@@ -20,14 +20,13 @@ pub fn version(slots: &[u32], i: usize, s: Stamp) -> usize
     if b.0 <= s.0 {
         return i;
     }
-    let link = tables::slot_link(slots, i);
-    if link == 0 {
+    let Some(before) = tables::slot_link(slots, i) else {
+        return i;
+    };
+    if i <= before {
         return i;
     }
-    if i < link {
-        return i;
-    }
-    version(slots, link - 1, s)
+    version(slots, before, s)
 }
 
 // The slot of value v that s sees.
@@ -45,8 +44,5 @@ pub fn base_of(slots: &[u32], heads: &[u32], log: &[u32], v: Value, s: Stamp) ->
 {
     let slot = version_of(slots, heads, v, s);
     let from = tables::end_at(log, tables::slot_stamp(slots, slot));
-    Base {
-        slot: slot,
-        from: from,
-    }
+    Base { slot, from }
 }

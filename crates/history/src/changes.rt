@@ -4,15 +4,25 @@ ghost use Rattle.std.specs.Prelude.{◌≡◌, ◌+◌, ◌≤◌, length};
 ghost use Rattle.rules.specs.Log.{names};
 ghost use Rattle.tables.specs.Meaning.{change_at};
 ghost use Rattle.tables.specs.Stretch.{stretch};
-ghost use Rattle.history.specs.Last.{last_place, last_of};
+ghost use Rattle.history.specs.Last.{one_past, set_of, last_place, last_of};
 
 use tables::Row;
 
-// The last change that names a row: one more than its place (0: there is none), and its flip set (0: there is none).
+// The last change that names a row: its place, and its flip set.
 #[derive(Clone, Copy)]
 pub struct Last {
     pub at: usize,
     pub set: u32,
+}
+
+// The flip set of a row's last change: 0 where no change names the row.
+pub fn set_of(last: Option<Last>) -> u32
+    ensures { result ≡ set_of last }
+{
+    match last {
+        Some(l) => l.set,
+        None => 0,
+    }
 }
 
 // Whether one of the 64 changes from `from` on names the row.
@@ -45,34 +55,30 @@ fn blocks_before(changes: &[u32], to: usize, row: u32) -> usize
     e
 }
 
-// One more than the place of the last of the first `to` changes that names the row, or 0.
-fn last_place(changes: &[u32], to: usize, row: u32) -> usize
+// The place of the last of the first `to` changes that names the row.
+fn last_place(changes: &[u32], to: usize, row: u32) -> Option<usize>
     requires { to ≤ length changes.now }
-    ensures { result ≡ last_place changes.now row to }
+    ensures { one_past result ≡ last_place changes.now row to }
 {
-    let mut e = blocks_before(changes, to, row);
-    while 0 < e {
-        if changes[e - 1] == row {
-            return e;
+    let end = blocks_before(changes, to, row);
+    for p in (0..end).rev() {
+        if changes[p] == row {
+            return Some(p);
         }
-        e -= 1;
     }
-    0
+    None
 }
 
 // The last of the first `to` changes that names the row.
-pub fn last_naming(changes: &[u32], to: usize, row: Row) -> Last
+pub fn last_naming(changes: &[u32], to: usize, row: Row) -> Option<Last>
     requires { (to ≤ 2048) × (4096 ≤ length changes.now) }
     ensures { result ≡ last_of changes.now to row.0 }
 {
-    let at = last_place(changes, to, row.0);
-    if at == 0 {
-        return Last { at: 0, set: 0 };
-    }
-    Last {
-        at: at,
-        set: tables::change_set(changes, at - 1),
-    }
+    let at = last_place(changes, to, row.0)?;
+    Some(Last {
+        at,
+        set: tables::change_set(changes, at),
+    })
 }
 
 // Whether one of the changes from `from` to `to` names the row.

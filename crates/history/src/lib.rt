@@ -11,8 +11,9 @@ mod span;
 mod vector;
 
 pub use chain::{Base, base_of, version, version_of};
-pub use changes::{Last, last_naming, named};
+pub use changes::{Last, last_naming, named, set_of};
 pub use mask::flips;
 pub use query::{Found, query_at};
-pub use read::{Standing, read_after, read_at};
+pub use read::{read_after, read_at};
 pub use span::span_at;
+pub use vector::slot_words;

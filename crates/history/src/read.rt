@@ -5,84 +5,56 @@ ghost use Rattle.history.specs.Read.{standing_of, read_cells, last_flips, has_af
 
 use crate::changes::Last;
 use crate::{chain, changes, vector};
-use tables::{Row, Stamp, Value};
-
-// What a row holds.
-#[derive(Clone, Copy)]
-pub enum Standing {
-    Holds(Value),
-    Absent,
-}
+use tables::{NumberTables, Row, Stamp, Value};
 
 // Whether the last change of a row stands at or after `from` and has v.
-fn flipped_since(last: Last, from: usize, v: Value) -> bool
+fn flipped_since(last: Option<Last>, from: usize, v: Value) -> bool
     requires { v.0 < 32 }
     ensures { result ≡ last_flips last from v.0 }
 {
-    (from < last.at) & bits::has(last.set, v.0)
+    match last {
+        Some(l) => (from <= l.at) & bits::has(l.set, v.0),
+        None => false,
+    }
 }
 
 // Whether the query of v at s has the row, whose last change up to s is `last`.
-fn row_has(
-    slots: &[u32],
-    words: &[u64],
-    heads: &[u32],
-    log: &[u32],
-    s: Stamp,
-    row: Row,
-    last: Last,
-    v: Value,
-) -> bool
-    requires { (3072 ≤ length words.now) × Based slots.now heads.now log.now s.0 v.0 }
-    ensures { result ≡ has_after (base_seen slots.now heads.now log.now s.0 v.0)
-        words.now row.0 last v.0 }
+fn row_has(t: NumberTables, s: Stamp, row: Row, last: Option<Last>, v: Value) -> bool
+    requires { (3072 ≤ length t.words.now) × Based t.slots.now t.heads.now t.log.now s.0 v.0 }
+    ensures { result ≡ has_after (base_seen t.entry.slots.now t.entry.heads.now t.entry.log.now s.0 v.0)
+        t.entry.words.now row.0 last v.0 }
 {
-    let base = chain::base_of(slots, heads, log, v, s);
-    let on = vector::slot_has(words, base.slot, row);
+    let base = chain::base_of(t.slots, t.heads, t.log, v, s);
+    let on = vector::slot_has(t.words, base.slot, row);
     on != flipped_since(last, base.from, v)
 }
 
 // What the row holds at s, where `last` is its last change up to s: the smallest value whose query has it.
 pub fn read_after(
-    slots: &[u32],
-    words: &[u64],
-    heads: &[u32],
-    log: &[u32],
+    t: NumberTables,
     values: Value,
     s: Stamp,
     row: Row,
-    last: Last,
-) -> Standing
-    requires { Readable slots.now words.now heads.now log.now values.0 s.0 }
-    ensures { standing_of result ≡ read_after
-        slots.now words.now heads.now log.now values.0 s.0 row.0 last }
+    last: Option<Last>,
+) -> Option<Value>
+    requires { Readable t.slots.now t.words.now t.heads.now t.log.now values.0 s.0 }
+    ensures { standing_of result ≡ read_after t.entry.slots.now t.entry.words.now
+        t.entry.heads.now t.entry.log.now values.0 s.0 row.0 last }
 {
-    let mut v: u32 = 0;
-    while v < values.0 {
-        if row_has(slots, words, heads, log, s, row, last, Value(v)) {
-            return Standing::Holds(Value(v));
+    for v in 0..values.0 {
+        if row_has(t, s, row, last, Value(v)) {
+            return Some(Value(v));
         }
-        v += 1;
     }
-    Standing::Absent
+    None
 }
 
 // What the row holds at s.
-pub fn read_at(
-    slots: &[u32],
-    words: &[u64],
-    heads: &[u32],
-    log: &[u32],
-    changes: &[u32],
-    values: Value,
-    s: Stamp,
-    row: Row,
-) -> Standing
-    requires { ReadReady slots.now words.now heads.now log.now changes.now values.0 s.0 }
-    ensures { standing_of result ≡ read_cells
-        slots.now words.now heads.now log.now changes.now
-        values.0 s.0 row.0 }
+pub fn read_at(t: NumberTables, values: Value, s: Stamp, row: Row) -> Option<Value>
+    requires { ReadReady t.slots.now t.words.now t.heads.now t.log.now t.changes.now values.0 s.0 }
+    ensures { standing_of result ≡ read_cells t.entry.slots.now t.entry.words.now
+        t.entry.heads.now t.entry.log.now t.entry.changes.now values.0 s.0 row.0 }
 {
-    let last = changes::last_naming(changes, tables::end_at(log, s), row);
-    read_after(slots, words, heads, log, values, s, row, last)
+    let last = changes::last_naming(t.changes, tables::end_at(t.log, s), row);
+    read_after(t, values, s, row, last)
 }

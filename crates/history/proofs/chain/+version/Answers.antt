@@ -5,11 +5,11 @@ use Rattle.history.proofs.chain.+version.Goals as goal
 pub returns-then-b-s : goal.returns-then-b-s
 returns-then-b-s t c = search version-here
 
-pub returns-then-link-eq0 : goal.returns-then-link-eq0
-returns-then-link-eq0 t c = search version-first
+pub returns-in_default : goal.returns-in_default
+returns-in_default t c = search version-first
 
-pub returns-then-i-link : goal.returns-then-i-link
-returns-then-i-link t c = search version-stuck
+pub returns-then-i-before : goal.returns-then-i-before
+returns-then-i-before t c = search version-stuck
 
 pub returns : goal.returns
 returns t c = search version-past

@@ -1,11 +1,7 @@
--- `history::last_place` meets its contract. The invariant: what names the row last up to `to` does so up to e.
+-- `history::last_place` meets its contract. The invariant: what names the row last up to `to` does so below p.
 use mathlib.Core.Path.{◌≡◌}
-use Prim.Native.Nat.{◌≤◌}
 use Rattle.history.specs.Last.{last_place}
 use Rattle.history.proofs.changes.last_place.Given as goal
 
-abbrev pub invariant-loop-e : goal.invariant-loop-e
-invariant-loop-e l = (l.e ≤ l.to) × (last_place l.changes l.row l.to ≡ last_place l.changes l.row l.e)
-
-abbrev pub decreases-loop-e : goal.decreases-loop-e
-decreases-loop-e l = l.e
+abbrev pub invariant-loop-p : goal.invariant-loop-p
+invariant-loop-p l = last_place l.changes l.row l.fn.to ≡ last_place l.changes l.row l.p

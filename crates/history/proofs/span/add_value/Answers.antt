@@ -1,6 +1,7 @@
 -- `history::add_value` meets its contract.
-use Rattle.history.proofs.QueryLaws.{flips-rows}
-use Rattle.history.proofs.SpanLaws.{value-based, value_low, log-long, value-merged}
+use mathlib.Core.Path.{sym, ◌∙◌}
+use Rattle.history.proofs.QueryLaws.{flips-rows, slot-length}
+use Rattle.history.proofs.SpanLaws.{value-based, value_low, log-long, vec-long, value-merged}
 use borrow.Author.Rules.{rules}
 use Rattle.history.proofs.span.add_value.Goals as goal
 
@@ -13,8 +14,11 @@ end_at-requires c = (search rules, search log-long)
 pub flips-mask-requires : goal.flips-mask-requires
 flips-mask-requires c = (search value_low, search flips-rows)
 
+pub merge-requires : goal.merge-requires
+merge-requires c = let long = sym c.requires.0 in
+    (slot-length _ _ _ c.slot_words-own.ensures c.base_of-base.ensures.0 c.requires.1.words-room ∙ long, vec-long _ _ c.flips-mask.ensures ∙ long)
+
 pub returns : goal.returns
 returns c =
-    value-merged _ _ _ _ _ _ _ _ _ _ _ _ (λ i. (c.slice_known-1.given i).fits) c.requires.0
-    (λ i. (c.type_inv.words i).fits) c.base_of-base.ensures.1 c.end_at.ensures
-    c.flips-mask.ensures c.merge.ensures
+    value-merged _ _ _ _ _ _ _ _ _ _ _ _ _ (λ i. search rules) c.requires.0 (λ i. search rules) c.base_of-base.ensures.1 c.end_at.ensures
+    c.flips-mask.ensures c.slot_words-own.ensures c.merge.ensures

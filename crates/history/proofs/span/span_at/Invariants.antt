@@ -7,8 +7,6 @@ use Rattle.history.specs.Query.{queried_at}
 use Rattle.history.proofs.span.span_at.Given as goal
 
 abbrev pub invariant-loop-v : goal.invariant-loop-v
-invariant-loop-v l = (l.initial.v ≤ l.v) × (l.v - (l.last.0 + 1) ≤ l.initial.v - (l.last.0 + 1))
-    × (l.all ≡ vec (λ r. any_from (λ u. queried_at l.slots l.words l.heads l.log l.changes l.s.0 u r) l.initial.v l.v) 32)
-
-abbrev pub decreases-loop-v : goal.decreases-loop-v
-decreases-loop-v l = l.last.0 + 1 - l.v
+invariant-loop-v l = (l.v - (l.v-end + 1) ≤ l.initial.v - (l.v-end + 1))
+    × (l.all ≡ vec (λ r. any_from (λ u. queried_at l.t.slots.now l.t.words.now l.t.heads.now l.t.log.now
+    l.t.changes.now l.s.0 u r) l.initial.v l.v) 32)
