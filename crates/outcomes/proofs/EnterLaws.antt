@@ -1,6 +1,5 @@
 -- Tables of tests: one that begins with another, and a test that never decides. The shared refusals, a test at a time, as the code
 -- judges them.
-use Rattle.std.specs.Prelude.{Result, Ok, Err}
 use mathlib.Core.Path.{◌≡◌, refl, ap, sym, ◌∙◌}
 use mathlib.Core.Bool.{Bool, true, false, cond, not, ◌&&◌}
 use mathlib.Core.Option.{none, some, none-ne-some, some-ne-none, Option}
@@ -13,15 +12,13 @@ use lib.ListN.{length}
 use Rattle.rules.specs.Refusals.{Test, first_of, no_session}
 use Rattle.rules.specs.Limits.{max_sessions}
 use Rattle.tables.specs.declared.clock.Clock.{Clock}
-use Rattle.tables.specs.declared.refusal.Refusal.{Refusal}
 use Rattle.tables.specs.Cells.{stamp_in}
 use Rattle.tables.specs.Clock.{clock_in}
-use Rattle.tables.specs.Refusals.{number_of}
 use Rattle.tables.specs.Room.{room_for, Roomy}
 use Rattle.damage.specs.Numbers.{numbers_fit}
 use Rattle.tables.proofs.Facts.{room-lengths}
 use Rattle.lent.specs.declared.seats.Seat.{Seat}
-use Rattle.outcomes.specs.Enter.{why_of, entered_by, placed_by, shut, in_reach, strange, unknown, opened_by, valued_by}
+use Rattle.outcomes.specs.Enter.{entered_by, placed_by, shut, in_reach, strange, unknown, opened_by, valued_by}
 
 -- a number given by the beginning of a table is given by the table
 pub first-begins : (ts us : List Test) (k : ℕ) → first_of ts ≡ some k → first_of (ts ++ us) ≡ some k
@@ -141,7 +138,7 @@ in_table n h = rw (lt-leb 16 n (omega arith))
 
 -- ---- 5 and a seat's reach, then 6
 
-module _ (clock slots words heads log changes : List ℕ) (x : Seat) (n : ℕ) (test : Result (Unit {0}) Refusal) where
+module _ (clock slots words heads log changes : List ℕ) (x : Seat) (n : ℕ) where
   abbrev tests : List Test → Option ℕ
   tests = entered_by clock slots words heads log changes x.places x.fit
 
@@ -151,16 +148,13 @@ module _ (clock slots words heads log changes : List ℕ) (x : Seat) (n : ℕ) (
       (room-lengths clock slots words heads log changes x.places (passes clock slots words heads log changes x.places x.fit ts
       e).room-found).clock-room
 
-  module _ (e : why_of test ≡ placed_by clock slots words heads log changes x.places x.fit n) where
-    pub opened-stays : (why : Refusal) → test ≡ Err why → why_of test ≡ opened_by clock slots words heads log changes x n
-    opened-stays why h =
-        ap why_of h
-        ∙ stays clock slots words heads log changes x.places x.fit (no_session n ∷ []) (shut x ∷ strange clock x ∷ []) (number_of why)
-        (sym e ∙ ap why_of h)
+  pub opened-stays : (k : ℕ) → some k ≡ placed_by clock slots words heads log changes x.places x.fit n
+      → some k ≡ opened_by clock slots words heads log changes x n
+  opened-stays k e = stays clock slots words heads log changes x.places x.fit (no_session n ∷ []) (shut x ∷ strange clock x ∷ []) k (sym e)
 
-    module _ (h : test ≡ Ok tt) where
+  module _ (e : none ≡ placed_by clock slots words heads log changes x.places x.fit n) where
       placed-none : tests (no_session n ∷ []) ≡ none
-      placed-none = sym e ∙ ap why_of h
+      placed-none = sym e
 
       pub placed-clock : 6 ≤ length clock
       placed-clock = clock-there (no_session n ∷ []) placed-none
@@ -188,17 +182,16 @@ module _ (clock slots words heads log changes : List ℕ) (x : Seat) (n : ℕ) (
         pub opened-passes : not b ≡ false → none ≡ opened_by clock slots words heads log changes x n
         opened-passes h = ap (λ (z : Bool). cond z (some 2) none) (sym h) ∙ left
 
-  module _ (e : why_of test ≡ opened_by clock slots words heads log changes x n) (v : ℕ) where
-    pub valued-stays : (why : Refusal) → test ≡ Err why → why_of test ≡ valued_by clock slots words heads log changes x n v
-    valued-stays why h =
-        ap why_of h
-        ∙ stays clock slots words heads log changes x.places x.fit (no_session n ∷ shut x ∷ strange clock x ∷ [])
-        (unknown clock v ∷ []) (number_of why)
-        (sym e ∙ ap why_of h)
+  module _ (v : ℕ) where
+    pub valued-stays : (k : ℕ) → some k ≡ opened_by clock slots words heads log changes x n
+        → some k ≡ valued_by clock slots words heads log changes x n v
+    valued-stays k e =
+        stays clock slots words heads log changes x.places x.fit (no_session n ∷ shut x ∷ strange clock x ∷ [])
+        (unknown clock v ∷ []) k (sym e)
 
-    module _ (h : test ≡ Ok tt) where
+    module _ (e : none ≡ opened_by clock slots words heads log changes x n) where
       pub opened-clock : 6 ≤ length clock
-      opened-clock = clock-there (no_session n ∷ shut x ∷ strange clock x ∷ []) (sym e ∙ ap why_of h)
+      opened-clock = clock-there (no_session n ∷ shut x ∷ strange clock x ∷ []) (sym e)
 
       module _ (c : Clock) (k : c ≡ clock_in clock) where
         left-value : cond (leb c.values.0 v) (some 6) none ≡ valued_by clock slots words heads log changes x n v
@@ -207,7 +200,7 @@ module _ (clock slots words heads log changes : List ℕ) (x : Seat) (n : ℕ) (
             ap (λ (d : Clock). cond (leb d.values.0 v) (some 6) none) k
             ∙ goes_on clock slots words heads log changes x.places x.fit (no_session n ∷ shut x ∷ strange clock x ∷ [])
             (unknown clock v ∷ [])
-            (sym e ∙ ap why_of h)
+            (sym e)
 
         pub no_value : c.values.0 ≤ v → some 6 ≡ valued_by clock slots words heads log changes x n v
         no_value l = ap (λ (b : Bool). cond b (some 6) none) (sym (le-leb c.values.0 v l)) ∙ left-value

@@ -1,6 +1,5 @@
 -- What a passed test of `enter` says: of the number tables alone, which is what the code goes on with, and of all tables that show
 -- the seat, where the rest of the call's tests decides.
-use Rattle.std.specs.Prelude.{Result, Ok, Err}
 use mathlib.Core.Path.{◌≡◌, refl, sym, ap, subst, ◌∙◌}
 use mathlib.Core.Bool.{Bool, true, false, not, cond, ◌&&◌, and_comm}
 use mathlib.Core.Option.{none, some, some-ne-none}
@@ -22,8 +21,6 @@ use Rattle.tables.specs.Cells.{Tables, tables, values_in, first_in, stamp_in}
 use Rattle.tables.specs.Clock.{lent_clock}
 use Rattle.tables.specs.Sessions.{freed, session_at}
 use Rattle.tables.specs.Meaning.{meaning, entries, session_of}
-use Rattle.tables.specs.Refusals.{number_of}
-use Rattle.tables.specs.declared.refusal.Refusal.{Refusal}
 use Rattle.tables.specs.Room.{roomy}
 use Rattle.tables.specs.Damage.{sound, session_fits}
 use Rattle.tables.proofs.Tests.{both, and_both}
@@ -41,7 +38,7 @@ use Rattle.lent.specs.declared.seats.Seat.{Seat}
 use Rattle.lent.specs.Seats as lent
 use Rattle.outcomes.specs.Outcome.{refusal_at}
 use Rattle.outcomes.specs.Seats.{seat_of}
-use Rattle.outcomes.specs.Enter.{why_of, entered_by, placed_by, shut, in_reach, strange, unknown, opened_by, valued_by}
+use Rattle.outcomes.specs.Enter.{entered_by, placed_by, shut, in_reach, strange, unknown, opened_by, valued_by}
 use Rattle.outcomes.proofs.EnterLaws.{first-begins, first-goes-on, first-skips, Passes, passes}
 
 -- ---- the number tables alone
@@ -93,7 +90,7 @@ module _ (clock slots words heads log changes : List ℕ) where
     pub count_low : x.count ≤ 32
     pub value_low : v < values_in clock
 
-  module _ (x : Seat) (n : ℕ) (test : Result (Unit {0}) Refusal) (h : test ≡ Ok tt) where
+  module _ (x : Seat) (n : ℕ) where
     abbrev came : List Test → Type 0
     came ts = Passes clock slots words heads log changes x.places x.fit ts
 
@@ -119,27 +116,27 @@ module _ (clock slots words heads log changes : List ℕ) where
           count_low = leb-true _ _ p.1;
         }
 
-    pub placed-passed : why_of test ≡ placed_by clock slots words heads log changes x.places x.fit n → Placed n
+    pub placed-passed : none ≡ placed_by clock slots words heads log changes x.places x.fit n → Placed n
     placed-passed e =
         let ts : List Test = no_session n ∷ [] in
-        let p = passes clock slots words heads log changes x.places x.fit ts (sym e ∙ ap why_of h) in
+        let p = passes clock slots words heads log changes x.places x.fit ts (sym e) in
         record {
           room = bare-room x.places p.room-found;
           good = bare-sound p.numbers-found;
           place-low = below-table (all-fail ts p.tests-found).0;
         }
 
-    pub opened-passed : why_of test ≡ opened_by clock slots words heads log changes x n → Opened x.session n
+    pub opened-passed : none ≡ opened_by clock slots words heads log changes x n → Opened x.session n
     opened-passed e =
         let ts : List Test = no_session n ∷ shut x ∷ strange clock x ∷ [] in
-        let p = passes clock slots words heads log changes x.places x.fit ts (sym e ∙ ap why_of h) in
+        let p = passes clock slots words heads log changes x.places x.fit ts (sym e) in
         let f = all-fail ts p.tests-found in
         three f.0 f.1.0 f.1.1.0 p.room-found p.numbers-found
 
-    pub valued-passed : (v : ℕ) → why_of test ≡ valued_by clock slots words heads log changes x n v → Valued x.session n v
+    pub valued-passed : (v : ℕ) → none ≡ valued_by clock slots words heads log changes x n v → Valued x.session n v
     valued-passed v e =
         let ts : List Test = no_session n ∷ shut x ∷ strange clock x ∷ unknown clock v ∷ [] in
-        let p = passes clock slots words heads log changes x.places x.fit ts (sym e ∙ ap why_of h) in
+        let p = passes clock slots words heads log changes x.places x.fit ts (sym e) in
         let f = all-fail ts p.tests-found in
         let o = three f.0 f.1.0 f.1.1.0 p.room-found p.numbers-found in
         let l : v < values_in clock = leb-false _ _ f.1.1.1.0 in search
@@ -280,42 +277,38 @@ module _ (t : Tables) (n : ℕ) (x : Seat) (e : x ≡ seat_of t n) where
       first-skips (no_session n) (shut x) (strange t.clock x) us (never-strange good)
       ∙ ap (λ (b : Bool). cond (leb max_sessions n) (some 4) (cond b (some 5) (first_of us))) shut-is
 
-  module _ (c : Call) (rest : List Test) (test : Result (Unit {0}) Refusal) where
+  module _ (c : Call) (rest : List Test) where
     -- a call whose table begins with 4
-    module _ (b : tests (meaning t) c ≡ no_session n ∷ rest)
-        (q : why_of test ≡ placed_by t.clock t.slots t.words t.heads t.log t.changes x.places x.fit n) where
-      pub placed-refuses : (why : Refusal) → test ≡ Err why → refusal_at t c ≡ some (number_of why)
-      placed-refuses why h =
-          refuses (no_session n ∷ []) c (number_of why) (λ good z. ap first_of b ∙ first-begins (no_session n ∷ []) rest (number_of why) z)
-          (sym q ∙ ap why_of h)
+    module _ (b : tests (meaning t) c ≡ no_session n ∷ rest) where
+      pub placed-refuses : (k : ℕ) → some k ≡ placed_by t.clock t.slots t.words t.heads t.log t.changes x.places x.fit n → refusal_at t c ≡ some k
+      placed-refuses k q =
+          refuses (no_session n ∷ []) c k (λ good z. ap first_of b ∙ first-begins (no_session n ∷ []) rest k z) (sym q)
 
-      pub placed-goes : test ≡ Ok tt → Goes t c rest
-      placed-goes h = goes (no_session n ∷ []) c rest (λ good z. ap first_of b ∙ first-goes-on (no_session n ∷ []) rest z) (sym q ∙ ap why_of h)
+      pub placed-goes : none ≡ placed_by t.clock t.slots t.words t.heads t.log t.changes x.places x.fit n → Goes t c rest
+      placed-goes q = goes (no_session n ∷ []) c rest (λ good z. ap first_of b ∙ first-goes-on (no_session n ∷ []) rest z) (sym q)
 
     -- with 4 and 5
-    module _ (b : tests (meaning t) c ≡ no_session n ∷ not_open (session (meaning t) n) ∷ rest)
-        (q : why_of test ≡ opened_by t.clock t.slots t.words t.heads t.log t.changes x n) where
+    module _ (b : tests (meaning t) c ≡ no_session n ∷ not_open (session (meaning t) n) ∷ rest) where
       abbrev five : List Test
       five = no_session n ∷ not_open (session (meaning t) n) ∷ []
 
-      pub opened-refuses : (why : Refusal) → test ≡ Err why → refusal_at t c ≡ some (number_of why)
-      opened-refuses why h =
-          refuses (no_session n ∷ shut x ∷ strange t.clock x ∷ []) c (number_of why)
-          (λ good z. ap first_of b ∙ first-begins five rest (number_of why) (sym (opening good []) ∙ z)) (sym q ∙ ap why_of h)
+      pub opened-refuses : (k : ℕ) → some k ≡ opened_by t.clock t.slots t.words t.heads t.log t.changes x n → refusal_at t c ≡ some k
+      opened-refuses k q =
+          refuses (no_session n ∷ shut x ∷ strange t.clock x ∷ []) c k
+          (λ good z. ap first_of b ∙ first-begins five rest k (sym (opening good []) ∙ z)) (sym q)
 
-      pub opened-goes : test ≡ Ok tt → Goes t c rest
-      opened-goes h =
+      pub opened-goes : none ≡ opened_by t.clock t.slots t.words t.heads t.log t.changes x n → Goes t c rest
+      opened-goes q =
           goes (no_session n ∷ shut x ∷ strange t.clock x ∷ []) c rest
-          (λ good z. ap first_of b ∙ first-goes-on five rest (sym (opening good []) ∙ z)) (sym q ∙ ap why_of h)
+          (λ good z. ap first_of b ∙ first-goes-on five rest (sym (opening good []) ∙ z)) (sym q)
 
-      pub opened-shows : test ≡ Ok tt → Shows t n x.session
-      opened-shows h =
-          let o = opened-passed t.clock t.slots t.words t.heads t.log t.changes x n test h q in
-          shows (opened-goes h).good o.place-low o.live-one
+      pub opened-shows : none ≡ opened_by t.clock t.slots t.words t.heads t.log t.changes x n → Shows t n x.session
+      opened-shows q =
+          let o = opened-passed t.clock t.slots t.words t.heads t.log t.changes x n q in
+          shows (opened-goes q).good o.place-low o.live-one
 
     -- with 4, 5 and 6
-    module _ (v : ℕ) (b : tests (meaning t) c ≡ no_session n ∷ not_open (session (meaning t) n) ∷ no_value (meaning t) v ∷ rest)
-        (q : why_of test ≡ valued_by t.clock t.slots t.words t.heads t.log t.changes x n v) where
+    module _ (v : ℕ) (b : tests (meaning t) c ≡ no_session n ∷ not_open (session (meaning t) n) ∷ no_value (meaning t) v ∷ rest) where
       abbrev six : List Test
       six = no_session n ∷ not_open (session (meaning t) n) ∷ no_value (meaning t) v ∷ []
 
@@ -324,17 +317,17 @@ module _ (t : Tables) (n : ℕ) (x : Seat) (e : x ≡ seat_of t n) where
           opening good (unknown t.clock v ∷ [])
           ∙ ap (λ (m : ℕ). first_of (no_session n ∷ not_open (session (meaning t) n) ∷ (leb m v, 6) ∷ [])) (sym (values-means t))
 
-      pub valued-refuses : (why : Refusal) → test ≡ Err why → refusal_at t c ≡ some (number_of why)
-      valued-refuses why h =
-          refuses (no_session n ∷ shut x ∷ strange t.clock x ∷ unknown t.clock v ∷ []) c (number_of why)
-          (λ good z. ap first_of b ∙ first-begins six rest (number_of why) (sym (alike good) ∙ z)) (sym q ∙ ap why_of h)
+      pub valued-refuses : (k : ℕ) → some k ≡ valued_by t.clock t.slots t.words t.heads t.log t.changes x n v → refusal_at t c ≡ some k
+      valued-refuses k q =
+          refuses (no_session n ∷ shut x ∷ strange t.clock x ∷ unknown t.clock v ∷ []) c k
+          (λ good z. ap first_of b ∙ first-begins six rest k (sym (alike good) ∙ z)) (sym q)
 
-      pub valued-goes : test ≡ Ok tt → Goes t c rest
-      valued-goes h =
+      pub valued-goes : none ≡ valued_by t.clock t.slots t.words t.heads t.log t.changes x n v → Goes t c rest
+      valued-goes q =
           goes (no_session n ∷ shut x ∷ strange t.clock x ∷ unknown t.clock v ∷ []) c rest
-          (λ good z. ap first_of b ∙ first-goes-on six rest (sym (alike good) ∙ z)) (sym q ∙ ap why_of h)
+          (λ good z. ap first_of b ∙ first-goes-on six rest (sym (alike good) ∙ z)) (sym q)
 
-      pub valued-shows : test ≡ Ok tt → Shows t n x.session
-      valued-shows h =
-          let o = valued-passed t.clock t.slots t.words t.heads t.log t.changes x n test h v q in
-          shows (valued-goes h).good o.place-low o.live-one
+      pub valued-shows : none ≡ valued_by t.clock t.slots t.words t.heads t.log t.changes x n v → Shows t n x.session
+      valued-shows q =
+          let o = valued-passed t.clock t.slots t.words t.heads t.log t.changes x n v q in
+          shows (valued-goes q).good o.place-low o.live-one

@@ -1,5 +1,7 @@
 -- A caller's number and the row or value that it is narrowed to mean the same to every call: both are refused alike where the number
 -- fits no row or value, and else they are one number.
+use Rattle.std.specs.Prelude.{Result, Ok, Err, OkIff}
+use Rattle.std.specs.Result.{result_unwrap_or}
 use mathlib.Core.Path.{◌≡◌, refl, sym, ap, subst, ◌∙◌}
 use mathlib.Core.Bool.{Bool, true, false, cond}
 use mathlib.Core.Option.{some}
@@ -37,6 +39,11 @@ narrow-past n l = rw (lt-ltb 4294967295 n l)
 pub narrow-here : (n : ℕ) → n ≤ 4294967295 → n ≡ narrowed n
 unfolding narrowed greatest
 narrow-here n l = rw (le-ltb 4294967295 n l)
+
+-- what the conversion answers, or the greatest
+pub narrow-either : {E : Type 0} (n : ℕ) (r : Result ℕ E) → OkIff r (n < 4294967296) n → result_unwrap_or r 4294967295 ≡ narrowed n
+narrow-either n (Ok x) h = h.1 ∙ narrow-here n (omega (arith, h.0))
+narrow-either n (Err e) h = narrow-past n (omega (arith, h))
 
 -- a number is its own, or both are at least the greatest
 pub narrow-cases : (n : ℕ) → (narrowed n ≡ n) ⊎ ((2048 ≤ narrowed n) × (2048 ≤ n))

@@ -1,6 +1,4 @@
 -- An open session of undamaged tables: what it means, and what its list says of a row.
-use Rattle.std.specs.Prelude.{Result, Ok, Err}
-use Rattle.tables.specs.declared.refusal.Refusal.{Refusal}
 use mathlib.Core.Path.{◌≡◌, refl, sym, ap, ap₂, subst, ◌∙◌}
 use mathlib.Core.Bool.{Bool, true, false, cond}
 use mathlib.Core.Option.{Option, none, some, map}
@@ -28,18 +26,17 @@ use Rattle.tables.proofs.Sessions.{OpenFacts, open_at}
 use Rattle.tables.proofs.Means.{open-means}
 use Rattle.lent.specs.declared.seats.Seat.{Seat}
 use Rattle.outcomes.specs.Calls.{or_place, spot_of}
-use Rattle.outcomes.specs.Enter.{why_of, opened_by}
+use Rattle.outcomes.specs.Enter.{opened_by}
 use Rattle.outcomes.specs.Opened.{Usable, OpenIn}
 use Rattle.outcomes.proofs.Entered.{opened-passed, seat-means, seat-there}
 use Rattle.outcomes.proofs.ListLaws.{has_row, entry_new, entry_row}
 
 -- ---- what a core that the session is open for knows of the number tables and of the session
 
-pub opened-usable : (clock slots words heads log changes : List ℕ) (x : Seat) (n : ℕ) (test : Result (Unit {0}) Refusal)
-    → why_of test ≡ opened_by clock slots words heads log changes x n → test ≡ Ok tt
-    → Usable clock slots words heads log changes x.session
-opened-usable clock slots words heads log changes x n test q h =
-    let p = opened-passed clock slots words heads log changes x n test h q in
+pub opened-usable : (clock slots words heads log changes : List ℕ) (x : Seat) (n : ℕ)
+    → none ≡ opened_by clock slots words heads log changes x n → Usable clock slots words heads log changes x.session
+opened-usable clock slots words heads log changes x n q =
+    let p = opened-passed clock slots words heads log changes x n q in
     record { room = p.room; good = p.good; start-old = p.start-old; rows_few = p.rows_few; count_low = p.count_low }
 
 -- ---- what it means

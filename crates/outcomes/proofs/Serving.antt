@@ -20,7 +20,7 @@ use Rattle.tables.specs.Sessions.{freed, begun}
 use Rattle.tables.specs.Room.{roomy}
 use Rattle.tables.specs.Damage.{sound}
 use Rattle.tables.specs.Meaning.{meaning}
-use Rattle.lent.specs.Places.{put_at, opened_at, freed_at}
+use Rattle.lent.specs.Places.{put_at}
 use Rattle.lent.specs.declared.seats.Seat.{Seat}
 use Rattle.outcomes.specs.declared.answers.Answer.{Answer}
 use Rattle.outcomes.specs.declared.answers.Answer.TheVariants.{Count, At}
@@ -31,7 +31,7 @@ use Rattle.outcomes.specs.Outcome.{Outcome, outcome, refusal_at, unless}
 use Rattle.outcomes.specs.Calls.{reseated}
 use Rattle.outcomes.specs.Seats.{begun_answer, list_answer, opening, relisting, freeing, beside}
 use Rattle.outcomes.specs.Seats.{Serves}
-use Rattle.outcomes.specs.Enter.{why_of, placed_by, opened_by, valued_by}
+use Rattle.outcomes.specs.Enter.{placed_by, opened_by, valued_by}
 use Rattle.outcomes.proofs.Entered.{placed-refuses, opened-refuses, valued-refuses}
 
 -- ---- the session table after each end
@@ -116,8 +116,7 @@ accepted t c e = go (roomy t) (sound t) e
 -- ---- a core that a test of `enter` refuses
 
 module _ (clock slots words heads log changes : List ℕ) (bs : List (List ℕ)) (x : Seat) (n : ℕ) (c : Call) (o : Tables → Outcome)
-    (test : Result (Unit {0}) Refusal) (why : Refusal) (h : test ≡ Err why) (settled : List Session → List Session) (a : Result Answer Refusal)
-    (i : Idle settled a (Err why)) where
+    (why : Refusal) (settled : List Session → List Session) (a : Result Answer Refusal) (i : Idle settled a (Err why)) where
   abbrev lent : List Session → Tables
   lent = tables clock slots words heads log changes
 
@@ -126,20 +125,20 @@ module _ (clock slots words heads log changes : List ℕ) (bs : List (List ℕ))
 
   module _ (rest : Tables → List Test) where
     pub placed-refused : ((t : Tables) → tests (meaning t) c ≡ no_session n ∷ rest t)
-        → why_of test ≡ placed_by clock slots words heads log changes x.places x.fit n → Refused
+        → some (number_of why) ≡ placed_by clock slots words heads log changes x.places x.fit n → Refused
     placed-refused b q ts e =
         let t = lent ts in
-        refused-outcome t bs c (o t) why settled a (placed-refuses t n x e c (rest t) test (b t) q why h) i
+        refused-outcome t bs c (o t) why settled a (placed-refuses t n x e c (rest t) (b t) (number_of why) q) i
 
     pub opened-refused : ((t : Tables) → tests (meaning t) c ≡ no_session n ∷ not_open (session (meaning t) n) ∷ rest t)
-        → why_of test ≡ opened_by clock slots words heads log changes x n → Refused
+        → some (number_of why) ≡ opened_by clock slots words heads log changes x n → Refused
     opened-refused b q ts e =
         let t = lent ts in
-        refused-outcome t bs c (o t) why settled a (opened-refuses t n x e c (rest t) test (b t) q why h) i
+        refused-outcome t bs c (o t) why settled a (opened-refuses t n x e c (rest t) (b t) (number_of why) q) i
 
     pub valued-refused : (v : ℕ)
         → ((t : Tables) → tests (meaning t) c ≡ no_session n ∷ not_open (session (meaning t) n) ∷ no_value (meaning t) v ∷ rest t)
-        → why_of test ≡ valued_by clock slots words heads log changes x n v → Refused
+        → some (number_of why) ≡ valued_by clock slots words heads log changes x n v → Refused
     valued-refused v b q ts e =
         let t = lent ts in
-        refused-outcome t bs c (o t) why settled a (valued-refuses t n x e c (rest t) test v (b t) q why h) i
+        refused-outcome t bs c (o t) why settled a (valued-refuses t n x e c (rest t) v (b t) (number_of why) q) i

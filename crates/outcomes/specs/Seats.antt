@@ -1,8 +1,6 @@
 -- What a call sees of the session table, what it does to it, and what a core promises of the whole tables.
 use Rattle.std.specs.Prelude.{Result, Ok, Err, ◌≡◌, List, [], ℕ, length}
 use Rattle.tables.specs.declared.session.Session.{Session}
-use Rattle.tables.specs.declared.counts.Stamp.{Stamp}
-use Rattle.tables.specs.declared.counts.Row.{Row}
 use Rattle.tables.specs.declared.refusal.Refusal.{Refusal}
 use Rattle.tables.specs.Cells.{Tables, tables}
 use Rattle.lent.specs.Places.{put_at, opened_at, freed_at, freed_all}

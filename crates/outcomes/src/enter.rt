@@ -6,6 +6,7 @@ use lent::Seat;
 use tables::{NumberTables, Refusal, Row, Stamp, Value};
 
 // 1, 2 and 4: room, damage, the session's number.
+#[tactic(auto, unfolding(crate::specs::Enter::entered_by))]
 pub fn placed(t: NumberTables, places: usize, fit: bool, n: u64) -> Result<(), Refusal>
     ensures { why_of result ≡ placed_by t.entry.clock.now t.entry.slots.now t.entry.words.now t.entry.heads.now
         t.entry.log.now t.entry.changes.now places fit n }

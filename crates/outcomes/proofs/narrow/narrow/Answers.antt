@@ -1,9 +1,7 @@
 -- `narrow::narrow` meets its contract.
-use Rattle.outcomes.proofs.NarrowLaws.{narrow-past, narrow-here}
+use Rattle.std.proofs.Common.{◌∙◌}
+use Rattle.outcomes.proofs.NarrowLaws.{narrow-either}
 use Rattle.outcomes.proofs.narrow.narrow.Goals as goal
 
-pub returns-then-n-gt4294967295 : goal.returns-then-n-gt4294967295
-returns-then-n-gt4294967295 c = search narrow-past
-
 pub returns : goal.returns
-returns c = search narrow-here
+returns c = c.unwrap_or.ensures ∙ narrow-either c.args.n c.try_from.result c.try_from.ensures
