@@ -6,11 +6,11 @@ use Rattle.vectors.proofs.rows.list_word.Goals as goal
 pub loop-x-init : goal.loop-x-init
 loop-x-init c = search listing_none
 
-pub overflow_add-base : goal.overflow_add-base
-overflow_add-base c = omega (arith, listing-lt _ _ _ _ _ _ _ c.loop-x.invariant c.loop-x-test.true (omega arith))
+pub overflow_add-list : goal.overflow_add-list
+overflow_add-list c = omega (arith, listing-lt _ _ _ _ _ _ _ c.loop-x.invariant c.loop-x-test.true (omega arith))
 
-pub short-requires : goal.short-requires
-short-requires c = search listing-lt
+pub overflow_cast-list : goal.overflow_cast-list
+overflow_cast-list c = search listing-lt
 
 pub bounds-list-at : goal.bounds-list-at
 bounds-list-at c = search listing-room
