@@ -1,10 +1,10 @@
 -- The laws of the bits of many words in one: it is 0 exactly if each of them is; and of the loop that gathers them.
 use mathlib.Core.Path.{◌≡◌, refl, sym, ap, ap₂, ◌∙◌}
 use mathlib.Core.Bool.{Bool, ◌&&◌, and-eq-true_iff}
-use Prim.Native.Nat.{ℕ, zero, suc, ◌+◌, ◌-◌, ◌/◌, ◌^◌, ◌≤◌, ◌<◌}
+use Prim.Native.Nat.{ℕ, zero, suc, ◌+◌, ◌-◌, ◌/◌, ◌^◌, ◌≤◌}
 use native.Mathlib.Omega.{arith}
 use native.Mathlib.Numerals.{add-one}
-use native.Mathlib.Nat.{zero-div, lt-suc_self}
+use native.Mathlib.Nat.{zero-div}
 use borrow.Author.Tests.{eqb-true, eq-eqb}
 use lib.Bits.{bit_or, and_le_l, and_le_r, or_add_and, or_shr}
 use lib.Dec.{eqb}
@@ -54,12 +54,6 @@ module _ (g : ℕ → ℕ) where
       let e : from + (i - from) ≡ i = omega arith in
       let f : suc (i - from) ≡ i + 1 - from = omega arith in
       ap₂ (λ (x j : ℕ). bit_or x (g j)) q (sym e) ∙ ap (or_below (λ k. g (from + k))) f
-
--- two functions that agree below n
-pub or-ext : (f g : ℕ → ℕ) (n : ℕ) → ((k : ℕ) → k < n → f k ≡ g k) → or_below f n ≡ or_below g n
-unfolding or_below
-or-ext f g zero h = refl
-or-ext f g (suc n) h = ap₂ bit_or (or-ext f g n (λ k l. h k (omega arith))) (h n (lt-suc_self n))
 
 pub from_all : (g : ℕ → ℕ) (from n : ℕ) → eqb (or_from g from n) 0 ≡ all_below (λ k. eqb (g (from + k)) 0) (n - from)
 unfolding or_from

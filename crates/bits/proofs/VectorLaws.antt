@@ -6,12 +6,11 @@ use mathlib.Core.Logic.{⊎_elim}
 use Prim.Native.Nat.{ℕ, ◌+◌, ◌-◌, ◌*◌, ◌/◌, ◌%◌, ◌^◌, ◌≤◌, ◌<◌}
 use native.Mathlib.Omega.{arith}
 use lib.Dec.{eqb, lit<}
-use lib.ListN.{length, get_or, take, drop, get_or-eq_default}
+use lib.ListN.{length, get_or, get_or-eq_default}
 use Rattle.bits.proofs.Cases.{lt-cases}
 use Rattle.bits.specs.All.{all_below}
 use Rattle.bits.proofs.AllLaws.{all_of, all-ext, all-and}
-use Rattle.bits.specs.OrWords.{or_below}
-use Rattle.bits.proofs.OrLaws.{or-clear, or-ext, from_all}
+use Rattle.bits.proofs.OrLaws.{or-clear, from_all}
 use Rattle.bits.specs.Bit.{bit}
 use Rattle.bits.specs.Part.{part}
 use Rattle.bits.proofs.PartLaws.{length_part, get_d_part}
@@ -61,16 +60,6 @@ module _ (ws : List ℕ) (i : ℕ) (fits : 32 * i + 32 ≤ length ws) where
 pub vector_at-vec : (f : ℕ → Bool) (n i : ℕ) → 32 * i + 32 ≤ n → vector_at (vec f n) i ≡ vec (λ r. f (2048 * i + r)) 32
 unfolding vector_at
 vector_at-vec f n i h = part-vec f n (32 * i) 32 h ∙ ap (λ (k : ℕ). vec (λ r. f (k + r)) 32) (omega arith)
-
--- the words of a part in one, which is said to have m words by the one who lends it
-pub or-part : (ws : List ℕ) (a m n : ℕ) (g : ℕ → ℕ) → m ≡ n → a + n ≤ length ws → ((k : ℕ) → k < n → get_or ws (a + k) 0 ≡ g k)
-    → or_below (λ i. get_or (take m (drop a ws)) i 0) (length (take m (drop a ws))) ≡ or_below g n
-unfolding part
-or-part ws a m n g e fits h =
-    let p = take n (drop a ws) in
-    ap (λ (k : ℕ). or_below (λ i. get_or (take k (drop a ws)) i 0) (length (take k (drop a ws)))) e
-    ∙ ap (or_below (λ i. get_or p i 0)) (length_part a n ws fits)
-    ∙ or-ext (λ i. get_or p i 0) g n (λ k l. get_d_part a n ws k 0 l ∙ h k l)
 
 module _ (ws : List ℕ) (n row : ℕ) (w : Words ws) (fits : 32 * n ≤ length ws) where
   abbrev first : ℕ → Bool

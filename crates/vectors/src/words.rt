@@ -1,7 +1,6 @@
 // Vectors: row r is bit r mod 64, bit 0 the lowest, of word r div 64.
-ghost use Rattle.std.specs.Prelude.{◌≡◌, false, ◌+◌, ◌*◌, ◌≤◌, ◌<◌, length, get_or};
+ghost use Rattle.std.specs.Prelude.{◌≡◌, false, ◌+◌, ◌*◌, ◌≤◌, ◌<◌, length};
 ghost use Rattle.bits.specs.Bit.{bit};
-ghost use Rattle.bits.specs.OrWords.{or_below};
 ghost use Rattle.bits.specs.Words.{bit_at, put_bit, put_at, xor_words, merged_words};
 ghost use Rattle.bits.specs.Vec.{vec};
 ghost use Rattle.bits.specs.Rows.{count_of};
@@ -97,19 +96,12 @@ pub fn count(ws: &[u64]) -> usize
     ws.iter().map(|w| w.count_ones() as usize).sum()
 }
 
-// The bits of all words in one.
-fn in_one(ws: &[u64]) -> u64
-    ensures { result ≡ or_below (λ i. get_or ws.now i 0) (length ws.now) }
-{
-    ws.iter().fold(0, |all, w| all | *w)
-}
-
 // Whether all words from `from` on are 0.
 fn zero_from(ws: &[u64], from: usize) -> bool
     requires { from ≤ length ws.now }
     ensures { result ≡ zeros_from ws.now from }
 {
-    in_one(&ws[from..]) == 0
+    ws[from..].iter().fold(0, |all, w| all | *w) == 0
 }
 
 // Whether no row at or above n is set.
@@ -140,7 +132,11 @@ fn rest_of(words: &[u64], from: usize, i: usize) -> u64
     requires { (from ≤ 32) × (32 * i + 32 ≤ length words.now) }
     ensures { result ≡ rest_of words.now from i }
 {
-    in_one(&words[32 * i + from..32 * i + 32])
+    let mut all = 0;
+    for j in from..32 {
+        all |= words[32 * i + j];
+    }
+    all
 }
 
 // Whether words `from` to 31 of each of the first n vectors are 0.

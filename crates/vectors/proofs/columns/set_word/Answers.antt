@@ -1,6 +1,7 @@
 -- `bits::columns::set_word` meets its contract. The invariant: the rows of the values below v are set.
 use Prim.Native.Nat.{◌/◌}
 use native.Mathlib.Omega.{arith}
+use borrow.Author.Rules.{rules}
 use Rattle.bits.specs.Column.{in_word}
 use Rattle.bits.proofs.ColumnLaws.{grown-none, vector-more, vectors-end}
 use Rattle.vectors.proofs.columns.set_word.Goals as goal
@@ -12,7 +13,7 @@ loop-v-init c =
     grown-none (λ q. q / 2048) (in_word s.col.now s.i) s.words.now (λ i. (fits i).fits)
 
 pub loop-v-preserved : goal.loop-v-preserved
-loop-v-preserved c = search vector-more
+loop-v-preserved c = search (rules, vector-more)
 
 pub returns : goal.returns
 returns c =
