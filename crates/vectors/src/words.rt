@@ -17,6 +17,7 @@ fn has_bit(w: u64, k: usize) -> bool
 }
 
 // The word with bit k made `on`.
+#[tactic(auto, using(bits::proofs::BitLaws::one_shl), unfolding(bits::specs::Bit::set_bit, bits::specs::Bit::clear_bit))]
 fn with_bit(w: u64, k: usize, on: bool) -> u64
     requires { k < 64 }
     ensures { result ≡ put_bit w k on }

@@ -1,4 +1,4 @@
--- `bits::columns::gather` meets its contract.
+-- `vectors::columns::gather` meets its contract.
 use Rattle.bits.proofs.ColumnLaws.{front-words, gather_none, gather-all}
 use native.Mathlib.Omega.{arith}
 use Rattle.vectors.proofs.columns.gather.Goals as goal

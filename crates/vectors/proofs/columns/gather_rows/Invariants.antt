@@ -1,4 +1,4 @@
--- `bits::columns::gather_rows` meets its contract. The invariant is what it needs, with k for `from`.
+-- `vectors::columns::gather_rows` meets its contract. The invariant is what it needs, with k for `from`.
 use mathlib.Core.Path.{◌≡◌}
 use lib.ListN.{length}
 use Rattle.bits.specs.Column.{Gatherable}

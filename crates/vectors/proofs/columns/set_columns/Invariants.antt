@@ -1,4 +1,4 @@
--- `bits::columns::set_columns` meets its contract. The invariant: the rows of the words before i are set.
+-- `vectors::columns::set_columns` meets its contract. The invariant: the rows of the words before i are set.
 use mathlib.Core.Path.{◌≡◌}
 use Prim.Native.Nat.{◌/◌, ◌%◌}
 use lib.ListN.{length}

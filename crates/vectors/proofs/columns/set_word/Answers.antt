@@ -1,4 +1,4 @@
--- `bits::columns::set_word` meets its contract. The invariant: the rows of the values below v are set.
+-- `vectors::columns::set_word` meets its contract. The invariant: the rows of the values below v are set.
 use Prim.Native.Nat.{◌/◌}
 use native.Mathlib.Omega.{arith}
 use borrow.Author.Rules.{rules}

@@ -1,4 +1,4 @@
--- `bits::rows::list_rows` meets its contract: the rows of the words that were passed are listed.
+-- `vectors::rows::list_rows` meets its contract: the rows of the words that were passed are listed.
 use mathlib.Core.Path.{refl}
 use native.Mathlib.Omega.{arith}
 use borrow.Author.Rules.{rules}

@@ -1,4 +1,4 @@
--- `bits::rows::list_rows` meets its contract: the rows of the words that were passed are listed.
+-- `vectors::rows::list_rows` meets its contract: the rows of the words that were passed are listed.
 use Rattle.bits.proofs.WordRows.{Listed}
 use Rattle.vectors.proofs.rows.list_rows.Given as goal
 

@@ -1,4 +1,4 @@
--- `bits::vectors::count` meets its contract: the rows that are set are those of each word.
+-- `vectors::words::count` meets its contract: the rows that are set are those of each word.
 use mathlib.Core.Path.{◌≡◌, refl, ap, ◌∙◌, sym}
 use mathlib.Core.List.{List}
 use Prim.Native.Nat.{ℕ, ◌+◌, ◌*◌, ◌≤◌, zero, suc}

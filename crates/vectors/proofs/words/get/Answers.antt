@@ -1,4 +1,4 @@
--- `bits::vectors::get` meets its contract. Past the words no row is set.
+-- `vectors::words::get` meets its contract. Past the words no row is set.
 use mathlib.Core.Path.{sym, ◌∙◌}
 use native.Mathlib.Omega.{arith}
 use Prim.Native.Nat.{◌/◌}

@@ -1,4 +1,4 @@
--- `bits::vectors::merge` meets its contract. The invariant: the words before i are those of `merged_words`.
+-- `vectors::words::merge` meets its contract. The invariant: the words before i are those of `merged_words`.
 use native.Mathlib.Omega.{arith}
 use Rattle.bits.specs.Words.{merged_words}
 use Rattle.bits.proofs.TabLaws.{filled_none, filled-all}

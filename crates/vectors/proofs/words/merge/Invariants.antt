@@ -1,4 +1,4 @@
--- `bits::vectors::merge` meets its contract. The invariant: the words before i are those of `merged_words`.
+-- `vectors::words::merge` meets its contract. The invariant: the words before i are those of `merged_words`.
 use lib.Bits.{bit_or}
 use lib.ListN.{get_or}
 use Rattle.bits.specs.Words.{xor_at}

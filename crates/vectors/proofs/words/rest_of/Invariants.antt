@@ -1,4 +1,4 @@
--- `bits::vectors::rest_of` meets its contract. The invariant: `all` is the OR of the words from `from` to j of the vector.
+-- `vectors::words::rest_of` meets its contract. The invariant: `all` is the OR of the words from `from` to j of the vector.
 use mathlib.Core.Path.{◌≡◌}
 use Prim.Native.Nat.{◌+◌, ◌*◌}
 use lib.ListN.{get_or}

@@ -1,4 +1,4 @@
--- `bits::vectors::word_of_all` meets its contract. The invariant: `all` is the OR of word j of the first i vectors.
+-- `vectors::words::word_of_all` meets its contract. The invariant: `all` is the OR of word j of the first i vectors.
 use mathlib.Core.Path.{◌≡◌, ap, ◌∙◌}
 use Prim.Native.Nat.{◌+◌, ◌*◌}
 use native.Mathlib.Omega.{arith}

@@ -1,4 +1,4 @@
--- `bits::vectors::xor_into` meets its contract. The invariant: the words before i are those of `xor_words`.
+-- `vectors::words::xor_into` meets its contract. The invariant: the words before i are those of `xor_words`.
 use mathlib.Core.Path.{refl, ap, ◌∙◌, sym}
 use native.Mathlib.Omega.{arith}
 use Rattle.bits.specs.Words.{xor_words, xor_at}

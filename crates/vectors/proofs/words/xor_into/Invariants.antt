@@ -1,4 +1,4 @@
--- `bits::vectors::xor_into` meets its contract. The invariant: the words before i are those of `xor_words`.
+-- `vectors::words::xor_into` meets its contract. The invariant: the words before i are those of `xor_words`.
 use Rattle.bits.specs.Words.{xor_at}
 use Rattle.bits.proofs.TabLaws.{Filled}
 use Rattle.vectors.proofs.words.xor_into.Given as goal

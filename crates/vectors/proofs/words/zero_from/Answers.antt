@@ -1,4 +1,4 @@
--- `bits::vectors::zero_from` meets its contract: a fold goes on with the next word.
+-- `vectors::words::zero_from` meets its contract: a fold goes on with the next word.
 use mathlib.Core.Path.{◌≡◌, refl, sym, ap, ap₂, ◌∙◌}
 use mathlib.Core.List.{List}
 use Prim.Native.Nat.{ℕ, zero, suc, ◌+◌, ◌-◌, ◌≤◌}

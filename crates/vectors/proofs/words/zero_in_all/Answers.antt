@@ -1,4 +1,4 @@
--- `bits::vectors::zero_in_all` meets its contract. The invariant: `all` is the OR of the words from `from` on of the first i vectors.
+-- `vectors::words::zero_in_all` meets its contract. The invariant: `all` is the OR of the words from `from` on of the first i vectors.
 use mathlib.Core.Path.{◌≡◌, ap, ◌∙◌}
 use Prim.Native.Nat.{ℕ}
 use native.Mathlib.Omega.{arith}

@@ -1,4 +1,4 @@
--- `bits::vectors::zero_in_all` meets its contract. The invariant: `all` is the OR of the words from `from` on of the first i vectors.
+-- `vectors::words::zero_in_all` meets its contract. The invariant: `all` is the OR of the words from `from` on of the first i vectors.
 use mathlib.Core.Path.{◌≡◌}
 use Rattle.bits.specs.OrWords.{or_below}
 use Rattle.bits.specs.Vectors.{rest_of}
