@@ -5,14 +5,12 @@ use mathlib.Core.List.{List}
 use mathlib.Core.Logic.{⊎_elim}
 use Prim.Native.Nat.{ℕ, ◌+◌, ◌-◌, ◌*◌, ◌/◌, ◌%◌, ◌^◌, ◌≤◌, ◌<◌}
 use native.Mathlib.Omega.{arith}
-use lib.Bits.{bit_or}
 use lib.Dec.{eqb, lit<}
 use lib.ListN.{length, get_or, get_or-eq_default}
 use Rattle.bits.proofs.Cases.{lt-cases}
 use Rattle.bits.specs.All.{all_below}
 use Rattle.bits.proofs.AllLaws.{all_of, all-ext, all-and}
-use Rattle.bits.specs.OrWords.{or_from}
-use Rattle.bits.proofs.OrLaws.{or-clear, from_more, from_all}
+use Rattle.bits.proofs.OrLaws.{or-clear, from_all}
 use Rattle.bits.specs.Bit.{bit}
 use Rattle.bits.specs.Part.{part}
 use Rattle.bits.proofs.PartLaws.{length_part, get_d_part}
@@ -62,18 +60,6 @@ module _ (ws : List ℕ) (i : ℕ) (fits : 32 * i + 32 ≤ length ws) where
 pub vector_at-vec : (f : ℕ → Bool) (n i : ℕ) → 32 * i + 32 ≤ n → vector_at (vec f n) i ≡ vec (λ r. f (2048 * i + r)) 32
 unfolding vector_at
 vector_at-vec f n i h = part-vec f n (32 * i) 32 h ∙ ap (λ (k : ℕ). vec (λ r. f (k + r)) 32) (omega arith)
-
--- the loop that gathers them goes on, and comes to the end
-pub rest_more : (ws : List ℕ) (from a j all : ℕ) → from ≤ j → all ≡ or_from (λ k. get_or ws (a + k) 0) from j
-    → bit_or all (get_or ws (a + j) 0) ≡ or_from (λ k. get_or ws (a + k) 0) from (j + 1)
-rest_more ws from a j all h q = from_more (λ k. get_or ws (a + k) 0) from j all h q
-
-pub rest_end : (ws : List ℕ) (from i a j all : ℕ) → a ≡ 32 * i → j ≤ 32 → 32 ≤ j → all ≡ or_from (λ k. get_or ws (a + k) 0) from j
-    → all ≡ rest_of ws from i
-unfolding rest_of
-rest_end ws from i a j all e h l q =
-    let z : j ≡ 32 = omega arith in
-    q ∙ ap₂ (λ (x y : ℕ). or_from (λ k. get_or ws (x + k) 0) from y) e z
 
 module _ (ws : List ℕ) (n row : ℕ) (w : Words ws) (fits : 32 * n ≤ length ws) where
   abbrev first : ℕ → Bool

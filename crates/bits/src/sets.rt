@@ -4,6 +4,7 @@ ghost use Rattle.bits.specs.Bit.{bit, flip_bit, clear_bit};
 ghost use Rattle.bits.specs.Sets.{set_below};
 
 // Whether the set has v.
+#[tactic(auto, unfolding(crate::specs::Bit::bit))]
 pub fn has(set: u32, v: u32) -> bool
     requires { v < 32 }
     ensures { result ≡ bit set v }
@@ -12,6 +13,7 @@ pub fn has(set: u32, v: u32) -> bool
 }
 
 // The set with v turned over.
+#[tactic(auto, using(crate::proofs::BitLaws::one_shl), unfolding(crate::specs::Bit::flip_bit))]
 pub fn toggle(set: u32, v: u32) -> u32
     requires { v < 32 }
     ensures { result ≡ flip_bit set v }
@@ -20,6 +22,7 @@ pub fn toggle(set: u32, v: u32) -> u32
 }
 
 // The set less v.
+#[tactic(auto, using(crate::proofs::BitLaws::one_shl), unfolding(crate::specs::Bit::clear_bit))]
 pub fn without(set: u32, v: u32) -> u32
     requires { v < 32 }
     ensures { result ≡ clear_bit set v }

@@ -1,37 +1,16 @@
 // A column of bytes as vectors, one for each value.
-ghost use Rattle.std.specs.Prelude.{◌≡◌, ◌+◌, ◌-◌, ◌*◌, ◌≤◌, ◌<◌, min, length};
+ghost use Rattle.std.specs.Prelude.{◌≡◌, ◌+◌, ◌-◌, ◌*◌, ◌≤◌, ◌<◌, length};
 ghost use Rattle.bits.specs.Column.{column_bit, in_word, with_rows, Gathered, Gatherable};
 
 use crate::words;
-
-// How many of the 64 rows of word i are below n.
-fn rows_of_word(n: usize, i: usize) -> usize
-    ensures { result ≡ min 64 (n - i * 64) }
-{
-    let whole = n / 64;
-    if i < whole {
-        return 64;
-    }
-    if i == whole { n % 64 } else { 0 }
-}
-
-// A byte as an index.
-fn index_of(b: u8) -> usize
-    ensures { (result ≡ b) × (result < 256) }
-{
-    b as usize
-}
 
 // The rows `from` to `to` of word i of a column, each set in the word of its byte.
 fn gather_rows(own: &mut [u64], col: &[u8], i: usize, from: usize, to: usize)
     requires { Gatherable own.old col.now i from to }
     ensures { Gathered col.now i to own.new }
 {
-    let mut k = from;
-    while k < to {
-        let b = index_of(col[i * 64 + k]);
-        own[b] = own[b] | (1 << k);
-        k += 1;
+    for k in from..to {
+        own[usize::from(col[i * 64 + k])] |= 1 << k;
     }
 }
 
@@ -41,8 +20,7 @@ fn gather(own: &mut [u64], col: &[u8], i: usize)
     ensures { Gathered col.now i 64 own.new }
 {
     words::clear(&mut own[..32]);
-    let n = rows_of_word(col.len(), i);
-    gather_rows(own, col, i, 0, n);
+    gather_rows(own, col, i, 0, (col.len() - i * 64).min(64));
 }
 
 // Each row of word i of a column that holds a value below 32 is set in the value's vector.
@@ -51,11 +29,8 @@ fn set_word(words: &mut [u64], own: &mut [u64], col: &[u8], i: usize)
     ensures { words.new ≡ with_rows (in_word col.now i) words.old }
 {
     gather(own, col, i);
-    let mut v: usize = 0;
-    while v < 32 {
-        let p = 32 * v + i;
-        words[p] = words[p] | own[v];
-        v += 1;
+    for v in 0..32 {
+        words[32 * v + i] |= own[v];
     }
 }
 
@@ -65,9 +40,7 @@ pub fn set_columns(words: &mut [u64], col: &[u8])
     ensures { words.new ≡ with_rows (column_bit col.now) words.old }
 {
     let mut own = [0u64; 256];
-    let mut i: usize = 0;
-    while i * 64 < col.len() {
+    for i in 0..col.len().div_ceil(64) {
         set_word(words, &mut own, col, i);
-        i += 1;
     }
 }

@@ -13,10 +13,9 @@ fn list_word(list: &mut [u16], start: usize, word: u64, base: u32) -> usize
     let mut at = start;
     let mut x = word;
     while x != 0 {
-        let t = u64::trailing_zeros(x);
-        list[at] = bits::short(base + t);
+        list[at] = (base + x.trailing_zeros()) as u16;
         at += 1;
-        x = x & (x - 1);
+        x &= x - 1;
     }
     at
 }
@@ -26,10 +25,8 @@ pub fn list_rows(list: &mut [u16], ws: &[u64])
     requires { (length ws.now ≤ 1024) × (count_of ws.now ≤ length list.old) }
     ensures { list.new ≡ over (rows_of ws.now) list.old }
 {
-    let mut at: usize = 0;
-    let mut i: usize = 0;
-    while i < ws.len() {
-        at = list_word(list, at, ws[i], bits::narrow(i * 64));
-        i += 1;
+    let mut at = 0;
+    for (i, w) in ws.iter().enumerate() {
+        at = list_word(list, at, *w, (i * 64) as u32);
     }
 }

@@ -1,12 +1,23 @@
 // Vectors: row r is bit r mod 64, bit 0 the lowest, of word r div 64.
 ghost use Rattle.std.specs.Prelude.{◌≡◌, false, ◌+◌, ◌*◌, ◌≤◌, ◌<◌, length};
+ghost use Rattle.bits.specs.Bit.{bit};
 ghost use Rattle.bits.specs.Words.{bit_at, put_bit, put_at, xor_words, merged_words};
 ghost use Rattle.bits.specs.Vec.{vec};
 ghost use Rattle.bits.specs.Rows.{count_of};
 ghost use Rattle.bits.specs.Tail.{tail_clear, zeros_from};
 ghost use Rattle.bits.specs.Vectors.{tails_clear, word_of_all, rest_of, zeros_of_all};
 
+// Whether bit k of the word is set.
+#[tactic(auto, unfolding(bits::specs::Bit::bit))]
+fn has_bit(w: u64, k: usize) -> bool
+    requires { k < 64 }
+    ensures { result ≡ bit w k }
+{
+    (w >> k) % 2 == 1
+}
+
 // The word with bit k made `on`.
+#[tactic(auto, using(bits::proofs::BitLaws::one_shl), unfolding(bits::specs::Bit::set_bit, bits::specs::Bit::clear_bit))]
 fn with_bit(w: u64, k: usize, on: bool) -> u64
     requires { k < 64 }
     ensures { result ≡ put_bit w k on }
@@ -16,36 +27,31 @@ fn with_bit(w: u64, k: usize, on: bool) -> u64
 }
 
 // Whether row `row` is set; a row past the words is not.
+#[tactic(auto, unfolding(bits::specs::Words::bit_at))]
 pub fn get(ws: &[u64], row: usize) -> bool
     ensures { result ≡ bit_at ws.now row }
 {
     let i = row / 64;
-    let k = row % 64;
-    if i < ws.len() {
-        (ws[i] >> k) % 2 == 1
-    } else {
-        false
-    }
+    i < ws.len() && has_bit(ws[i], row % 64)
 }
 
 // Whether row `row` of one vector is set.
+#[tactic(auto, unfolding(bits::specs::Words::bit_at))]
 pub fn get_in(ws: &[u64; 32], row: usize) -> bool
     requires { row < 2048 }
     ensures { result ≡ bit_at ws.now row }
 {
-    let i = (row / 64) % 32;
-    let k = row % 64;
-    (ws[i] >> k) % 2 == 1
+    has_bit(ws[row / 64], row % 64)
 }
 
 // Row `row` of one vector is made `on`.
+#[tactic(auto, unfolding(bits::specs::Words::put_at))]
 pub fn put_in(ws: &mut [u64; 32], row: usize, on: bool)
     requires { row < 2048 }
     ensures { ws.new ≡ put_at ws.old row on }
 {
-    let i = (row / 64) % 32;
-    let k = row % 64;
-    ws[i] = with_bit(ws[i], k, on);
+    let i = row / 64;
+    ws[i] = with_bit(ws[i], row % 64, on);
 }
 
 // The words of `a` with the rows of `mask` turned over.
@@ -53,10 +59,8 @@ pub fn xor_into(dst: &mut [u64], a: &[u64], mask: &[u64])
     requires { (length a.now ≡ length dst.old) × (length mask.now ≡ length dst.old) }
     ensures { dst.new ≡ xor_words a.now mask.now }
 {
-    let mut i = 0;
-    while i < dst.len() {
-        dst[i] = a[i] ^ mask[i];
-        i += 1;
+    for (i, d) in dst.iter_mut().enumerate() {
+        *d = a[i] ^ mask[i];
     }
 }
 
@@ -65,10 +69,8 @@ pub fn merge(dst: &mut [u64], a: &[u64], mask: &[u64])
     requires { (length a.now ≡ length dst.old) × (length mask.now ≡ length dst.old) }
     ensures { dst.new ≡ merged_words dst.old a.now mask.now }
 {
-    let mut i = 0;
-    while i < dst.len() {
-        dst[i] = dst[i] | (a[i] ^ mask[i]);
-        i += 1;
+    for (i, d) in dst.iter_mut().enumerate() {
+        *d |= a[i] ^ mask[i];
     }
 }
 
@@ -77,22 +79,14 @@ pub fn copy(dst: &mut [u64], src: &[u64])
     requires { length src.now ≡ length dst.old }
     ensures { dst.new ≡ src.now }
 {
-    let mut i = 0;
-    while i < dst.len() {
-        dst[i] = src[i];
-        i += 1;
-    }
+    dst.copy_from_slice(src);
 }
 
 // No row is set.
 pub fn clear(dst: &mut [u64])
     ensures { dst.new ≡ vec (λ r. false) (length dst.old) }
 {
-    let mut i = 0;
-    while i < dst.len() {
-        dst[i] = 0;
-        i += 1;
-    }
+    dst.fill(0);
 }
 
 // How many rows are set.
@@ -100,13 +94,7 @@ pub fn count(ws: &[u64]) -> usize
     requires { length ws.now ≤ 1024 }
     ensures { result ≡ count_of ws.now }
 {
-    let mut n: usize = 0;
-    let mut i = 0;
-    while i < ws.len() {
-        n += u64::count_ones(ws[i]) as usize;
-        i += 1;
-    }
-    n
+    ws.iter().map(|w| w.count_ones() as usize).sum()
 }
 
 // Whether all words from `from` on are 0.
@@ -114,13 +102,7 @@ fn zero_from(ws: &[u64], from: usize) -> bool
     requires { from ≤ length ws.now }
     ensures { result ≡ zeros_from ws.now from }
 {
-    let mut all: u64 = 0;
-    let mut i = from;
-    while i < ws.len() {
-        all = all | ws[i];
-        i += 1;
-    }
-    all == 0
+    ws[from..].iter().fold(0, |all, w| all | *w) == 0
 }
 
 // Whether no row at or above n is set.
@@ -139,11 +121,9 @@ fn word_of_all(words: &[u64], n: usize, j: usize) -> u64
     requires { (j < 32) × (32 * n ≤ length words.now) }
     ensures { result ≡ word_of_all words.now n j }
 {
-    let mut all: u64 = 0;
-    let mut i: usize = 0;
-    while i < n {
-        all = all | words[32 * i + j];
-        i += 1;
+    let mut all = 0;
+    for i in 0..n {
+        all |= words[32 * i + j];
     }
     all
 }
@@ -153,12 +133,9 @@ fn rest_of(words: &[u64], from: usize, i: usize) -> u64
     requires { (from ≤ 32) × (32 * i + 32 ≤ length words.now) }
     ensures { result ≡ rest_of words.now from i }
 {
-    let a = 32 * i;
-    let mut all: u64 = 0;
-    let mut j = from;
-    while j < 32 {
-        all = all | words[a + j];
-        j += 1;
+    let mut all = 0;
+    for j in from..32 {
+        all |= words[32 * i + j];
     }
     all
 }
@@ -168,11 +145,9 @@ fn zero_in_all(words: &[u64], n: usize, from: usize) -> bool
     requires { (from ≤ 32) × (32 * n ≤ length words.now) }
     ensures { result ≡ zeros_of_all words.now n from }
 {
-    let mut all: u64 = 0;
-    let mut i: usize = 0;
-    while i < n {
-        all = all | rest_of(words, from, i);
-        i += 1;
+    let mut all = 0;
+    for i in 0..n {
+        all |= rest_of(words, from, i);
     }
     all == 0
 }

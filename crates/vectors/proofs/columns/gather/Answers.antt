@@ -1,4 +1,4 @@
--- `bits::columns::gather` meets its contract.
+-- `vectors::columns::gather` meets its contract.
 use Rattle.bits.proofs.ColumnLaws.{front-words, gather_none, gather-all}
 use native.Mathlib.Omega.{arith}
 use Rattle.vectors.proofs.columns.gather.Goals as goal
@@ -10,8 +10,7 @@ pub gather_rows-requires : goal.gather_rows-requires
 gather_rows-requires c =
     let s = c.args in
     let e = c.clear in
-    let n = c.rows_of_word-n.result in
-    gather_none s.col.now s.i e.new.dst s.own.now n e.ensures (omega arith) (omega arith) (omega arith)
+    gather_none s.col.now s.i e.new.dst s.own.now _ e.ensures (omega arith) (omega arith) (omega arith)
 
 pub returns : goal.returns
-returns c = search gather-all
+returns c = gather-all c.args.col.now c.args.i c.gather_rows.new.own _ (omega arith) c.gather_rows.ensures

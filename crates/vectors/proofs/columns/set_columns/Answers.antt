@@ -1,5 +1,4 @@
--- `bits::columns::set_columns` meets its contract. The invariant: the rows of the words before i are set.
--- The measure is what is left of the column.
+-- `vectors::columns::set_columns` meets its contract. The invariant: the rows of the words before i are set.
 use Prim.Native.Nat.{◌/◌, ◌%◌}
 use native.Mathlib.Omega.{arith}
 use borrow.Author.Rules.{rules}
@@ -11,10 +10,10 @@ pub loop-i-init : goal.loop-i-init
 loop-i-init c =
     let s = c.args in
     let fits = c.type_inv.words in
-    (grown-none (λ q. q % 2048 / 64) (column_bit s.col.now) s.words.now (λ i. (fits i).fits), search rules, search rules)
+    (grown-none (λ q. q % 2048 / 64) (column_bit s.col.now) s.words.now (λ i. (fits i).fits), search rules)
 
 pub loop-i-preserved : goal.loop-i-preserved
-loop-i-preserved c = (search word_more, search rules, search rules)
+loop-i-preserved c = (search word_more, search rules)
 
 pub returns : goal.returns
 returns c =

@@ -1,14 +1,10 @@
--- `bits::columns::set_columns` meets its contract. The invariant: the rows of the words before i are set.
--- The measure is what is left of the column.
+-- `vectors::columns::set_columns` meets its contract. The invariant: the rows of the words before i are set.
 use mathlib.Core.Path.{◌≡◌}
-use Prim.Native.Nat.{◌*◌, ◌/◌, ◌%◌, ◌-◌, ◌≤◌}
+use Prim.Native.Nat.{◌/◌, ◌%◌}
 use lib.ListN.{length}
 use Rattle.bits.specs.Column.{column_bit}
 use Rattle.bits.proofs.ColumnLaws.{Grown}
 use Rattle.vectors.proofs.columns.set_columns.Given as goal
 
 abbrev pub invariant-loop-i : goal.invariant-loop-i
-invariant-loop-i l = Grown (λ q. q % 2048 / 64) (column_bit l.col) l.initial.words l.words l.i × (l.i ≤ 32) × (length l.own ≡ 256)
-
-abbrev pub decreases-loop-i : goal.decreases-loop-i
-decreases-loop-i l = length l.col - l.i * 64
+invariant-loop-i l = Grown (λ q. q % 2048 / 64) (column_bit l.col) l.initial.words l.words l.i × (length l.own ≡ 256)

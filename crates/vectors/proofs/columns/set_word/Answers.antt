@@ -1,5 +1,4 @@
--- `bits::columns::set_word` meets its contract. The invariant: the rows of the values below v are set.
--- The measure is what is left of the values.
+-- `vectors::columns::set_word` meets its contract. The invariant: the rows of the values below v are set.
 use Prim.Native.Nat.{◌/◌}
 use native.Mathlib.Omega.{arith}
 use borrow.Author.Rules.{rules}
@@ -11,13 +10,13 @@ pub loop-v-init : goal.loop-v-init
 loop-v-init c =
     let s = c.args in
     let fits = c.type_inv.words in
-    (grown-none (λ q. q / 2048) (in_word s.col.now s.i) s.words.now (λ i. (fits i).fits), search rules)
+    grown-none (λ q. q / 2048) (in_word s.col.now s.i) s.words.now (λ i. (fits i).fits)
 
 pub loop-v-preserved : goal.loop-v-preserved
-loop-v-preserved c = (search vector-more, search rules)
+loop-v-preserved c = search (rules, vector-more)
 
 pub returns : goal.returns
 returns c =
     let s = c.args in
     let l = c.loop-v in
-    vectors-end s.col.now s.i (omega arith) s.words.now l.words l.v l.invariant.0 (omega arith)
+    vectors-end s.col.now s.i (omega arith) s.words.now l.words l.v l.invariant (omega arith)

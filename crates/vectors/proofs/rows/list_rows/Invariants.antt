@@ -1,11 +1,6 @@
--- `bits::rows::list_rows` meets its contract: the rows of the words that were passed are listed.
-use Prim.Native.Nat.{◌-◌}
-use lib.ListN.{length}
+-- `vectors::rows::list_rows` meets its contract: the rows of the words that were passed are listed.
 use Rattle.bits.proofs.WordRows.{Listed}
 use Rattle.vectors.proofs.rows.list_rows.Given as goal
 
 abbrev pub invariant-loop-i : goal.invariant-loop-i
 invariant-loop-i l = Listed l.ws l.initial.list l.list l.at l.i
-
-abbrev pub decreases-loop-i : goal.decreases-loop-i
-decreases-loop-i l = length l.ws - l.i

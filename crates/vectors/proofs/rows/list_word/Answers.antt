@@ -1,16 +1,6 @@
--- `bits::rows::list_word` meets its contract: what is stored of the rows, and what is still to come, is the whole.
-use native.Mathlib.Omega.{arith}
-use Rattle.bits.proofs.WordRows.{listing_none, listing-lt, listing-room, listing-less, listing_step, listing-end}
+-- `vectors::rows::list_word` meets its contract: what is stored of the rows, and what is still to come, is the whole.
+use Rattle.bits.proofs.WordRows.{listing-room, listing-less, listing_step, listing-end}
 use Rattle.vectors.proofs.rows.list_word.Goals as goal
-
-pub loop-x-init : goal.loop-x-init
-loop-x-init c = search listing_none
-
-pub overflow_add-base : goal.overflow_add-base
-overflow_add-base c = omega (arith, listing-lt _ _ _ _ _ _ _ c.loop-x.invariant c.loop-x-test.true (omega arith))
-
-pub short-requires : goal.short-requires
-short-requires c = search listing-lt
 
 pub bounds-list-at : goal.bounds-list-at
 bounds-list-at c = search listing-room

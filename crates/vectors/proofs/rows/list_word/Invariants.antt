@@ -1,4 +1,4 @@
--- `bits::rows::list_word` meets its contract: what is stored of the rows, and what is still to come, is the whole.
+-- `vectors::rows::list_word` meets its contract: what is stored of the rows, and what is still to come, is the whole.
 use lib.ListN.{length}
 use Rattle.bits.specs.Rows.{word_rows}
 use Rattle.bits.proofs.WordRows.{Listing}

@@ -1,44 +1,32 @@
--- `bits::vectors::count` meets its contract. The invariant: n is how many rows of the words before i are set. The measure is what
--- is left of the words.
-use mathlib.Core.Path.{◌≡◌, ap, ◌∙◌, sym}
-use Prim.Native.Nat.{ℕ, ◌*◌, ◌+◌, ◌≤◌}
+-- `vectors::words::count` meets its contract: the rows that are set are those of each word.
+use mathlib.Core.Path.{◌≡◌, refl, ap, ◌∙◌, sym}
+use mathlib.Core.List.{List}
+use Prim.Native.Nat.{ℕ, ◌+◌, ◌*◌, ◌≤◌, zero, suc}
 use native.Mathlib.Omega.{arith}
+use native.Mathlib.Numerals.{add-one}
 use borrow.Author.Rules.{rules}
-use lib.ListN.{length, get_or}
-use lib.Count.{ones, ones-le}
-use Rattle.bits.specs.Words.{bit_at}
+use lib.Count.{ones}
+use lib.ListN.{length, get_or, take}
+use lib.Seq.{take-length}
+use Rattle.std.specs.List.{sum_by}
+use Rattle.std.proofs.lemmas.List.Sums.{sum_by_more}
+use Rattle.bits.specs.Words.{bit_at, Words}
 use Rattle.bits.specs.Rows.{count_below, count_of}
-use Rattle.bits.proofs.RowLaws.{count-le, count_word}
+use Rattle.bits.proofs.RowLaws.{count_word}
 use Rattle.vectors.proofs.words.count.Goals as goal
 
--- a word has at most 64 bits set
-few : (c : goal.After-shared_slice_known-1)
-    → ones (get_or c.args.ws.now c.loop-i.i 0) ≤ 64
-few c = ones-le 64 (get_or c.args.ws.now c.loop-i.i 0)
-    (c.type_inv.ws c.loop-i.i).fits
-
-pub loop-i-init : goal.loop-i-init
+-- the rows of the first n words
+front : (ws : List ℕ) → Words ws → (n : ℕ) → n ≤ length ws → sum_by ones (take n ws) ≡ count_below (bit_at ws) (n * 64)
 unfolding count_below
-loop-i-init c = search rules
-
-pub overflow_cast-n : goal.overflow_cast-n
-overflow_cast-n c = omega (arith, few c)
-
-pub overflow_add-n : goal.overflow_add-n
-overflow_add-n c = omega (arith, few c, count-le (bit_at c.args.ws.now) (c.loop-i.i * 64))
-
-pub loop-i-preserved : goal.loop-i-preserved
-loop-i-preserved c =
-    let l = c.loop-i in
-    let ws = c.args.ws.now in (
-      search rules,
-      ap (λ (x : ℕ). x + ones (get_or ws l.i 0)) l.invariant.1
-          ∙ sym (count_word ws l.i (λ i. (c.type_inv.ws i).fits)),
-    )
+front ws w zero h = refl
+front ws w (suc n) h =
+    ap (λ (k : ℕ). sum_by ones (take k ws)) (sym (add-one n)) ∙ sum_by_more ones ws n 0 h
+    ∙ ap (λ (x : ℕ). x + ones (get_or ws n 0)) (front ws w n (omega arith)) ∙ sym (count_word ws n w)
+    ∙ ap (λ (k : ℕ). count_below (bit_at ws) (k * 64)) (add-one n)
 
 pub returns : goal.returns
 unfolding count_of
 returns c =
     let ws = c.args.ws.now in
-    let e : c.loop-i.i ≡ length ws = omega arith in
-    c.loop-i.invariant.1 ∙ ap (λ (x : ℕ). count_below (bit_at ws) (x * 64)) e
+    let summed : c.sum.result ≡ sum_by ones ws = search rules in
+    summed ∙ ap (sum_by ones) (sym (take-length ws)) ∙ front ws (λ i. (c.type_inv.ws i).fits) (length ws) (omega arith)

@@ -1,13 +1,9 @@
--- `bits::vectors::rest_of` meets its contract. The invariant: `all` is the OR of the words from `from` to j of the vector. The
--- measure is what is left of the 32 words.
+-- `vectors::words::rest_of` meets its contract. The invariant: `all` is the OR of the words from `from` to j of the vector.
 use mathlib.Core.Path.{◌≡◌}
-use Prim.Native.Nat.{◌+◌, ◌-◌, ◌*◌, ◌≤◌}
+use Prim.Native.Nat.{◌+◌, ◌*◌}
 use lib.ListN.{get_or}
 use Rattle.bits.specs.OrWords.{or_from}
 use Rattle.vectors.proofs.words.rest_of.Given as goal
 
 abbrev pub invariant-loop-j : goal.invariant-loop-j
-invariant-loop-j l = (l.a ≡ 32 * l.i) × (l.from ≤ l.j) × (l.j ≤ 32) × (l.all ≡ or_from (λ k. get_or l.words (l.a + k) 0) l.from l.j)
-
-abbrev pub decreases-loop-j : goal.decreases-loop-j
-decreases-loop-j l = 32 - l.j
+invariant-loop-j l = l.all ≡ or_from (λ k. get_or l.words (32 * l.i + k) 0) l.from l.j

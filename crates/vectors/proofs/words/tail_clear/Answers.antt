@@ -1,4 +1,4 @@
--- `bits::vectors::tail_clear` meets its contract. Past the words there is nothing to test; else `tail-words` takes the one word and
+-- `vectors::words::tail_clear` meets its contract. Past the words there is nothing to test; else `tail-words` takes the one word and
 -- those after it together.
 use mathlib.Core.Path.{sym, ap, ◌∙◌}
 use mathlib.Core.Bool.{Bool, ◌&&◌}

@@ -1,4 +1,4 @@
--- `bits::vectors::tails_clear` meets its contract. From row 2,048 on there is nothing to test; else `tails-words` takes the one
+-- `vectors::words::tails_clear` meets its contract. From row 2,048 on there is nothing to test; else `tails-words` takes the one
 -- word of all vectors and those after it together, and where the one word has a row the rest is not looked at.
 use mathlib.Core.Path.{sym, ap, ap₂, ◌∙◌}
 use mathlib.Core.Bool.{Bool, ◌&&◌}

@@ -1,9 +1,7 @@
--- `bits::vectors::word_of_all` meets its contract. The invariant: `all` is the OR of word j of the first i vectors. The measure is
--- what is left of the vectors.
+-- `vectors::words::word_of_all` meets its contract. The invariant: `all` is the OR of word j of the first i vectors.
 use mathlib.Core.Path.{◌≡◌, ap, ◌∙◌}
 use Prim.Native.Nat.{◌+◌, ◌*◌}
 use native.Mathlib.Omega.{arith}
-use borrow.Author.Rules.{rules}
 use lib.ListN.{get_or}
 use Rattle.bits.specs.OrWords.{or_below}
 use Rattle.bits.proofs.OrLaws.{or-zero, or-more}
@@ -11,15 +9,14 @@ use Rattle.bits.specs.Vectors.{word_of_all}
 use Rattle.vectors.proofs.words.word_of_all.Goals as goal
 
 pub loop-i-init : goal.loop-i-init
-loop-i-init c = (search rules, search or-zero)
+loop-i-init c = search or-zero
 
 pub loop-i-preserved : goal.loop-i-preserved
-loop-i-preserved c = (search rules, search or-more)
+loop-i-preserved c = search or-more
 
 pub returns : goal.returns
 unfolding word_of_all
 returns c =
     let s = c.args in
-    let l = c.loop-i in
-    let e : l.i ≡ s.n = omega arith in
-    l.invariant.1 ∙ ap (or_below (λ k. get_or s.words.now (32 * k + s.j) 0)) e
+    let e : c.loop-i.i ≡ s.n = omega arith in
+    c.loop-i.invariant ∙ ap (or_below (λ k. get_or s.words.now (32 * k + s.j) 0)) e
