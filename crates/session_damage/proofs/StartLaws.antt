@@ -23,16 +23,6 @@ module _ (start rows : ℕ) (log : List ℕ) (c : Clock) where
   unfolding start_fits
   start-facts e = search told depth 8
 
-  -- after the stamp, past the log, and a log that is too short
-  pub late-start : c.stamp.0 < start → false ≡ start_fits start rows log c
-  late-start h = not_so (start_fits start rows log c) (λ e. omega (arith, (start-facts e).start-old))
-
-  pub high-start : 512 < start → false ≡ start_fits start rows log c
-  high-start h = not_so (start_fits start rows log c) (λ e. omega (arith, (start-facts e).start-low))
-
-  pub short-log : length log < 2048 → false ≡ start_fits start rows log c
-  short-log h = not_so (start_fits start rows log c) (λ e. omega (arith, (start-facts e).log-room))
-
   -- the row count of that moment
   pub known_start : (r : ℕ) → start ≤ c.stamp.0 → start ≤ 512 → 2048 ≤ length log → r ≡ rows_in_log c.first.0 log start
       → eqb rows r ≡ start_fits start rows log c
