@@ -1,15 +1,14 @@
 -- A session's start, looked at a step at a time.
 use mathlib.Core.Path.{◌≡◌, sym, ap, ◌∙◌}
-use mathlib.Core.Bool.{Bool, true, false, ◌&&◌}
+use mathlib.Core.Bool.{Bool, true, ◌&&◌}
 use mathlib.Core.List.{List}
-use Prim.Native.Nat.{ℕ, ◌≤◌, ◌<◌}
-use native.Mathlib.Omega.{arith}
+use Prim.Native.Nat.{ℕ, ◌≤◌}
 use lib.Dec.{leb, eqb}
 use lib.ListN.{length}
 use Rattle.tables.specs.declared.clock.Clock.{Clock}
 use Rattle.tables.specs.Cells.{rows_in_log}
 use Rattle.session_damage.specs.Parts.{start_fits}
-use Rattle.tables.proofs.Tests.{told, made, not_so}
+use Rattle.tables.proofs.Tests.{told, made}
 
 -- what a start that fits has
 pub record StartFacts (start rows : ℕ) (log : List ℕ) (c : Clock) : Type 0 where
