@@ -2,6 +2,8 @@
 ghost use Rattle.std.specs.Prelude.{◌≡◌};
 ghost use Rattle.tables.specs.Room.{room_for};
 
+use tables::{CHANGE_CELLS, HEAD_CELLS, LOG_CELLS, MAX_SESSIONS, SLOT_CELLS, SLOT_WORDS};
+
 // Whether every table has room for its full limit; `places` is the length of the session table.
 pub fn room(
     clock: &[u32],
@@ -16,10 +18,10 @@ pub fn room(
         log.now changes.now places }
 {
     (6 <= clock.len())
-        & (288 <= slots.len())
-        & (3072 <= words.len())
-        & (32 <= heads.len())
-        & (2048 <= log.len())
-        & (4096 <= changes.len())
-        & (16 <= places)
+        & (SLOT_CELLS <= slots.len())
+        & (SLOT_WORDS <= words.len())
+        & (HEAD_CELLS <= heads.len())
+        & (LOG_CELLS <= log.len())
+        & (CHANGE_CELLS <= changes.len())
+        & (MAX_SESSIONS as usize <= places)
 }

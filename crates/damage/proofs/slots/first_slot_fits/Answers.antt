@@ -1,6 +1,8 @@
--- `first_slot_fits` meets its contract: three comparisons.
-use Rattle.damage.proofs.SlotLaws.{first_slot}
+-- `first_slot_fits` meets its contract: the definition itself.
+use mathlib.Core.Path.{refl}
+use Rattle.tables.specs.Damage.{first_slot_fits}
 use Rattle.damage.proofs.slots.first_slot_fits.Goals as goal
 
 pub returns : goal.returns
-returns c = search first_slot
+unfolding first_slot_fits
+returns c = refl
