@@ -2,56 +2,25 @@
 use mathlib.Core.Path.{◌≡◌, refl, sym, ap, ap₂, ◌∙◌}
 use mathlib.Core.Bool.{Bool, true, false, not, ◌&&◌, cond}
 use mathlib.Core.List.{List}
-use Prim.Native.Nat.{ℕ, ◌+◌, ◌-◌, ◌≤◌, ◌<◌}
+use Prim.Native.Nat.{ℕ, ◌+◌, ◌-◌}
 use native.Mathlib.Omega.{arith}
-use borrow.Author.Tests.{eq-eqb, ne_eqb, le-leb, lt-ltb, le-ltb}
+use borrow.Author.Tests.{lt-ltb, le-ltb}
 use lib.Dec.{leb, eqb, ltb}
 use lib.ListN.{get_or}
 use Rattle.bits.specs.All.{all_below}
 use Rattle.tables.specs.declared.clock.Clock.{Clock}
-use Rattle.tables.specs.Cells.{values_in, stamp_in, slots_in, slot_value, slot_stamp, slot_link, head_of}
+use Rattle.tables.specs.Cells.{values_in, stamp_in, slots_in, slot_value, slot_stamp, slot_link}
 use Rattle.tables.specs.Clock.{clock_in}
 use Rattle.tables.specs.Damage.{all_in, clock_fits, first_slot_fits, later_slot_fits, slot_fits, slots_fit, head_fits, heads_fit}
-use Rattle.tables.proofs.Tests.{told, not_so}
 use Rattle.tables.proofs.Facts.{clock-facts}
 use Rattle.damage.specs.Parts.{link_fits}
 use Rattle.tables.proofs.Fold.{below_in, in-join, in-ext}
 
--- ---- a link
-
--- four tests: the first two hold, one before all
-two-hold : (a b c d : Bool) → a ≡ true → b ≡ true → c && d ≡ a && b && c && d
-two-hold a b c d p q = sym (ap₂ (λ (x y : Bool). x && y && c && d) p q)
+-- ---- a later slot
 
 one-before : (x a b c d : Bool) → x && (a && b && c && d) ≡ x && a && b && c && d
 one-before true a b c d = refl
 one-before false a b c d = refl
-
-module _ (slots : List ℕ) (i link : ℕ) (e : link ≡ slot_link slots i) where
-  abbrev same : Bool
-  same = eqb (slot_value slots (slot_link slots i - 1)) (slot_value slots i)
-
-  abbrev older : Bool
-  older = ltb (slot_stamp slots (slot_link slots i - 1)) (slot_stamp slots i)
-
-  -- none
-  pub no-link : link ≡ 0 → false ≡ link_fits slots i
-  unfolding link_fits
-  no-link z = sym (ap (λ (t : Bool). not t && leb (slot_link slots i) i && same && older) (eq-eqb (slot_link slots i) 0 (sym e ∙ z)))
-
-  -- one that does not lead to an earlier slot
-  pub late-link : i < link → false ≡ link_fits slots i
-  unfolding link_fits
-  late-link h = not_so (link_fits slots i) (λ z. let l : slot_link slots i ≤ i = search told in omega arith)
-
-  -- one that does
-  pub early-link : (link ≡ 0 → ⊥) → link ≤ i
-      → eqb (get_or slots (link - 1) 0) (get_or slots i 0) && ltb (get_or slots (96 + (link - 1)) 0) (get_or slots (96 + i) 0) ≡ link_fits slots i
-  unfolding link_fits
-  early-link n h =
-      ap (λ (x : ℕ). eqb (slot_value slots (x - 1)) (slot_value slots i) && ltb (slot_stamp slots (x - 1)) (slot_stamp slots i)) e
-      ∙ two-hold (not (eqb (slot_link slots i) 0)) (leb (slot_link slots i) i) same older
-      (ap not (ne_eqb (slot_link slots i) 0 (λ z. n (e ∙ z)))) (le-leb (slot_link slots i) i (omega arith))
 
 -- a later slot: its value and its stamp, and its link
 pub later-slot : (values last : ℕ) (slots : List ℕ) (i : ℕ) (b : Bool) → b ≡ link_fits slots i
@@ -98,19 +67,6 @@ module _ (clock slots : List ℕ) (f : clock_fits clock ≡ true) where
       (q ∙ ap₂ (λ (m n : ℕ). all_in (later_slot_fits m n slots) m used) x y ∙ ap (all_in later (values_in clock)) i) ∙ sym slots-split
 
 -- ---- heads
-
-module _ (slots heads : List ℕ) (used v h : ℕ) (e : h ≡ head_of heads v) where
-  -- one that names no slot in use
-  pub past_head : used ≤ h → ltb h used ≡ head_fits used slots heads v
-  unfolding head_fits
-  past_head l =
-      le-ltb h used l ∙ sym (ap (λ (t : Bool). t && eqb (slot_value slots (head_of heads v)) v) (le-ltb (head_of heads v) used (omega arith)))
-
-  pub used-head : h < used → eqb (get_or slots h 0) v ≡ head_fits used slots heads v
-  unfolding head_fits
-  used-head l =
-      ap (λ (x : ℕ). eqb (slot_value slots x) v) e
-      ∙ sym (ap (λ (t : Bool). t && eqb (slot_value slots (head_of heads v)) v) (lt-ltb (head_of heads v) used (omega arith)))
 
 pub all-heads : (clock slots heads : List ℕ) (used : ℕ) → used ≡ slots_in clock
     → heads_fit clock slots heads ≡ all_in (head_fits used slots heads) 0 (values_in clock)

@@ -6,6 +6,7 @@ ghost use Rattle.damage.specs.Numbers.{numbers_fit};
 use crate::{clock, slots, tails};
 
 // Whether the number tables are not damaged.
+#[tactic(auto, unfolding(crate::specs::Numbers::numbers_fit))]
 pub fn numbers_fit(
     clock: &[u32],
     slots: &[u32],
@@ -18,20 +19,10 @@ pub fn numbers_fit(
     ensures { result ≡ numbers_fit clock.now slots.now words.now heads.now
         log.now changes.now }
 {
-    if !clock::clock_fits(clock) {
-        return false;
-    }
-    if !record_damage::records_fit(clock, log) {
-        return false;
-    }
-    if !change_damage::changes_fit(clock, log, changes) {
-        return false;
-    }
-    if !slots::slots_fit(clock, slots) {
-        return false;
-    }
-    if !slots::heads_fit(clock, slots, heads) {
-        return false;
-    }
-    tails::vectors_fit(clock, log, slots, words)
+    clock::clock_fits(clock)
+        && record_damage::records_fit(clock, log)
+        && change_damage::changes_fit(clock, log, changes)
+        && slots::slots_fit(clock, slots)
+        && slots::heads_fit(clock, slots, heads)
+        && tails::vectors_fit(clock, log, slots, words)
 }

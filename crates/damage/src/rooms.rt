@@ -5,6 +5,7 @@ ghost use Rattle.tables.specs.Room.{room_for};
 use tables::{CHANGE_CELLS, HEAD_CELLS, LOG_CELLS, MAX_SESSIONS, SLOT_CELLS, SLOT_WORDS};
 
 // Whether every table has room for its full limit; `places` is the length of the session table.
+#[tactic(auto, unfolding(tables::specs::Room::room_for))]
 pub fn room(
     clock: &[u32],
     slots: &[u32],

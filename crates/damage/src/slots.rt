@@ -7,6 +7,7 @@ ghost use Rattle.damage.specs.Parts.{link_fits};
 use tables::{Stamp, Value};
 
 // Whether slot i, below C, has value i, stamp 0 and no link.
+#[tactic(auto, unfolding(tables::specs::Damage::first_slot_fits))]
 fn first_slot_fits(slots: &[u32], i: usize) -> bool
     requires { (i < 96) × (288 ≤ length slots.now) }
     ensures { result ≡ first_slot_fits slots.now i }
@@ -27,6 +28,7 @@ fn first_slots_fit(slots: &[u32], n: usize) -> bool
 }
 
 // Whether slot i links to an earlier slot of its value with a smaller stamp; the lent cells hold plain numbers, 0 for no link.
+#[tactic(auto, unfolding(crate::specs::Parts::link_fits))]
 fn link_fits(slots: &[u32], i: usize) -> bool
     requires { (i < 96) × (288 ≤ length slots.now) }
     ensures { result ≡ link_fits slots.now i }
@@ -64,6 +66,7 @@ pub fn slots_fit(clock: &[u32], slots: &[u32]) -> bool
 }
 
 // Whether head v names a slot in use of value v.
+#[tactic(auto, unfolding(tables::specs::Damage::head_fits))]
 fn head_fits(slots: &[u32], heads: &[u32], used: usize, v: Value) -> bool
     requires { (v.0 < 32) × (used ≤ 96) × (288 ≤ length slots.now) × (32 ≤ length heads.now) }
     ensures { result ≡ head_fits used slots.now heads.now v.0 }

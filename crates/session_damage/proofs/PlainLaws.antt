@@ -73,14 +73,6 @@ module _ (at to : List ℕ) (rows values : ℕ) where
     pub plain_more : Plain at to rows values (i + 1) next (ok && (ltb row rows && ltb target values && not b))
     plain_more = record { all_seen = next-seen; all_fit = next-fit }
 
-  -- every entry was looked at
-  pub plain_end : (n i seen : ℕ) (ok : Bool) → Plain at to rows values i seen ok → i ≤ n → n ≤ i → ok ≡ true
-      → (all_below (listed values rows at to) n ≡ true) × (all_below (once_in at) n ≡ true)
-  plain_end n i seen ok p h l e =
-      let z : i ≡ n = omega arith in
-      let f : _ = p.all_fit e in
-      (ap (all_below (listed values rows at to)) (sym z) ∙ f.0, ap (all_below (once_in at)) (sym z) ∙ f.1)
-
   -- a plain list fits
   pub plain-list : (count : ℕ) (b : Bool) → count ≤ 32 → rows ≤ 2048 → values ≤ 32
       → (b ≡ true → (all_below (listed values rows at to) count ≡ true) × (all_below
