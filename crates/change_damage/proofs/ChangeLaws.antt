@@ -195,12 +195,12 @@ module _ (clock log changes : List ℕ) (c : Clock) (n set : ℕ) (t : Bool) (e 
       ∙ ap₂ (λ (v m : ℕ). all_below (λ p. set_below (change_set changes p) v) m) (ap (λ (x : Clock). x.values.0) e) i
 
   -- a set that is not below C
-  pub bad-sets : not t ≡ true → false ≡ changes_fit clock log changes
-  bad-sets h = sym (changes-split clock log changes r ∙ ap (λ (x : Bool). x && rows clock log changes r) (sym sets-are ∙ not-true t h))
+  pub bad-sets : t ≡ false → t ≡ changes_fit clock log changes
+  bad-sets h = h ∙ sym (changes-split clock log changes r ∙ ap (λ (x : Bool). x && rows clock log changes r) (sym sets-are ∙ h))
 
   -- the rows of each record
-  pub each_rows : (b : Bool) → not t ≡ false → b ≡ all_below (record_rows_fit log changes) c.stamp.0 → b ≡ changes_fit clock log changes
+  pub each_rows : (b : Bool) → t ≡ true → b ≡ all_below (record_rows_fit log changes) c.stamp.0 → b ≡ changes_fit clock log changes
   unfolding clock_in
   each_rows b h p =
       p ∙ ap (all_below (record_rows_fit log changes)) (ap (λ (x : Clock). x.stamp.0) e)
-      ∙ ap (λ (x : Bool). x && rows clock log changes r) (sym (sym sets-are ∙ not-false t h)) ∙ sym (changes-split clock log changes r)
+      ∙ ap (λ (x : Bool). x && rows clock log changes r) (sym (sym sets-are ∙ h)) ∙ sym (changes-split clock log changes r)

@@ -104,8 +104,6 @@ pub fn changes_fit(clock: &[u32], log: &[u32], changes: &[u32]) -> bool
 {
     let c = tables::clock_of(clock);
     let n = tables::changes_used(clock) as usize;
-    if !bits::all_below(gathered(changes, 2048, n), c.values.0) {
-        return false;
-    }
-    each_rows_fit(log, changes, c.stamp.0 as usize)
+    bits::all_below(gathered(changes, 2048, n), c.values.0)
+        && each_rows_fit(log, changes, c.stamp.0 as usize)
 }

@@ -1,10 +1,9 @@
 -- The vectors: those of slots below C, and all while the row count is the first one, are judged at once; else one by one.
 use mathlib.Core.Path.{◌≡◌, sym, ap, ap₂, ◌∙◌}
-use mathlib.Core.Bool.{Bool, true, false, not, ◌&&◌}
+use mathlib.Core.Bool.{Bool, true, false, ◌&&◌}
 use mathlib.Core.List.{List}
 use Prim.Native.Nat.{ℕ, ◌+◌, ◌-◌, ◌*◌, ◌≤◌, ◌<◌}
 use native.Mathlib.Omega.{arith}
-use borrow.Author.Tests.{not-true, not-false}
 use lib.ListN.{length, take, drop}
 use Rattle.bits.specs.All.{all_below}
 use Rattle.bits.proofs.AllLaws.{all-ext}
@@ -86,10 +85,10 @@ module _ (clock log slots words : List ℕ) where
           (ap₂ (λ (m n : ℕ). all_in (vector_fits m log slots words) n (slots_in clock)) first values))
 
       -- one of them is not clear
-      pub first-fails : not t ≡ true → false ≡ vectors_fit clock log slots words
-      first-fails h = sym (asked false (not-true t h))
+      pub first-fails : t ≡ false → t ≡ vectors_fit clock log slots words
+      first-fails h = h ∙ sym (asked false h)
 
       -- all are: the later ones decide
-      pub rest-decides : (n : ℕ) (b : Bool) → n ≡ slots_in clock → not t ≡ false
+      pub rest-decides : (n : ℕ) (b : Bool) → n ≡ slots_in clock → t ≡ true
           → b ≡ all_in (vector_fits c.first.0 log slots words) c.values.0 n → b ≡ vectors_fit clock log slots words
-      rest-decides n b m h w = w ∙ ap (all_in (vector_fits c.first.0 log slots words) c.values.0) m ∙ sym (asked true (not-false t h))
+      rest-decides n b m h w = w ∙ ap (all_in (vector_fits c.first.0 log slots words) c.values.0) m ∙ sym (asked true h)

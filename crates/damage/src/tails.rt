@@ -53,8 +53,6 @@ pub fn vectors_fit(clock: &[u32], log: &[u32], slots: &[u32], words: &[u64]) -> 
         return vectors::tails_clear(words, n, first);
     }
     let whole = c.values.0 as usize;
-    if !vectors::tails_clear(words, whole, first) {
-        return false;
-    }
-    each_vector_fits(log, slots, words, c.first, whole, n)
+    vectors::tails_clear(words, whole, first)
+        && each_vector_fits(log, slots, words, c.first, whole, n)
 }

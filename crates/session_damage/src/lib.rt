@@ -38,6 +38,7 @@ fn session_zero(s: Session) -> bool
 }
 
 // Whether an entry is a row below `rows` with a target, or an insert.
+#[tactic(auto, unfolding(tables::specs::Damage::entry_fits))]
 fn entry_fits(at: u16, to: u8, rows: u16, values: u8) -> bool
     ensures { result ≡ entry_fits values rows at to }
 {
@@ -78,6 +79,7 @@ fn listed_once(at: &[u16; 32], n: usize) -> bool
 }
 
 // Whether a row's last six bits were seen.
+#[tactic(auto, unfolding(bits::specs::Bit::bit))]
 fn was_seen(seen: u64, row: u32) -> bool
     ensures { result ≡ bit seen (row % 64) }
 {
@@ -128,13 +130,14 @@ fn entries_fit(at: &[u16; 32], to: &[u8; 32], n: u32, rows: Row, values: Value) 
 }
 
 // Whether a start is at most the stamp, and `rows` the row count of that moment.
+#[tactic(auto, unfolding(crate::specs::Parts::start_fits))]
 fn start_fits(start: Stamp, rows: Row, log: &[u32], c: Clock) -> bool
     ensures { result ≡ start_fits start.0 rows.0 log.now c }
 {
-    if c.stamp.0 < start.0 || MAX_RECORDS < start.0 || log.len() < LOG_CELLS {
-        return false;
-    }
-    rows.0 == tables::rows_at(log, c.first, start).0
+    start.0 <= c.stamp.0
+        && start.0 <= MAX_RECORDS
+        && LOG_CELLS <= log.len()
+        && rows.0 == tables::rows_at(log, c.first, start).0
 }
 
 // Whether a session is free and all 0, or open and sound.
@@ -144,8 +147,5 @@ pub fn session_fits(s: Session, log: &[u32], c: Clock) -> bool
     if s.live != 1 {
         return session_zero(s);
     }
-    if !start_fits(s.start, s.rows, log, c) {
-        return false;
-    }
-    entries_fit(&s.at, &s.to, s.count, s.rows, c.values)
+    start_fits(s.start, s.rows, log, c) && entries_fit(&s.at, &s.to, s.count, s.rows, c.values)
 }
