@@ -145,13 +145,6 @@ module _ (log changes : List ℕ) (n : ℕ) (r : Rising log n) where
 pub stretch-ends : (log : List ℕ) (e to : ℕ) → to ≡ record_end log e → to ≡ end_at log (e + 1)
 stretch-ends log e to y = y ∙ sym (end-next log e)
 
--- the search for the last of them
-pub alike-made : (log : List ℕ) (k e n : ℕ) → k ≤ e → e < n → record_rows log e ≡ record_rows log k → Alike log k e n
-alike-made log k e n h l q = record { not-before = h; in_use = l; same_rows = q }
-
-pub alike_next : (log : List ℕ) (k f rows : ℕ) → rows ≡ record_rows log k → record_rows log f ≡ rows → record_rows log f ≡ record_rows log k
-alike_next log k f rows e q = q ∙ e
-
 -- ---- where the records are sound
 
 module _ (c log changes : List ℕ) (r : records_fit c log ≡ true) where
@@ -182,36 +175,32 @@ module _ (c log changes : List ℕ) (r : records_fit c log ≡ true) where
 
 -- ---- what the code asks, with the numbers that it copied
 
-pub rising : (clock log : List ℕ) (c : Clock) (n : ℕ) → clock_fits clock ≡ true → records_fit clock log ≡ true → c ≡ clock_in clock
-    → n ≡ c.stamp.0 → Rising log n
+pub rising : (clock log : List ℕ) (c : Clock) → clock_fits clock ≡ true → records_fit clock log ≡ true → c ≡ clock_in clock
+    → Rising log c.stamp.0
 unfolding clock_in
-rising clock log c n f r e o =
-    let z : n ≡ stamp_in clock = o ∙ ap (λ (x : Clock). x.stamp.0) e in
+rising clock log c f r e =
+    let z : c.stamp.0 ≡ stamp_in clock = ap (λ (x : Clock). x.stamp.0) e in
     record {
       rows-rise = λ a b h l. rows-order clock log r (suc a) (suc b) (omega arith) (omega arith);
       ends-rise = λ a b h l. ends-order clock log r a b h (omega arith);
       ends_low = λ k h. omega (arith, end-high clock log r k (omega arith), (clock-limits clock f).few-changes);
     }
 
-module _ (clock log changes : List ℕ) (c : Clock) (u n set : ℕ) (t : Bool) (e : c ≡ clock_in clock) (i : u ≡ changes_in clock) (o : n ≡ u)
+module _ (clock log changes : List ℕ) (c : Clock) (n set : ℕ) (t : Bool) (e : c ≡ clock_in clock) (i : n ≡ changes_in clock)
     (r : records_fit clock log ≡ true) (q : Gathered changes 2048 n set) (y : t ≡ set_below set c.values.0) where
-  used : n ≡ changes_in clock
-  used = o ∙ i
-
   sets-are : t ≡ sets clock log changes r
   unfolding clock_in Gathered
   sets-are =
       y ∙ q c.values.0
-      ∙ ap₂ (λ (v m : ℕ). all_below (λ p. set_below (change_set changes p) v) m) (ap (λ (x : Clock). x.values.0) e) used
+      ∙ ap₂ (λ (v m : ℕ). all_below (λ p. set_below (change_set changes p) v) m) (ap (λ (x : Clock). x.values.0) e) i
 
   -- a set that is not below C
-  pub bad-sets : not t ≡ true → false ≡ changes_fit clock log changes
-  bad-sets h = sym (changes-split clock log changes r ∙ ap (λ (x : Bool). x && rows clock log changes r) (sym sets-are ∙ not-true t h))
+  pub bad-sets : t ≡ false → t ≡ changes_fit clock log changes
+  bad-sets h = h ∙ sym (changes-split clock log changes r ∙ ap (λ (x : Bool). x && rows clock log changes r) (sym sets-are ∙ h))
 
   -- the rows of each record
-  pub each_rows : (m : ℕ) (b : Bool) → not t ≡ false → m ≡ c.stamp.0 → b ≡ all_below (record_rows_fit log changes) m
-      → b ≡ changes_fit clock log changes
+  pub each_rows : (b : Bool) → t ≡ true → b ≡ all_below (record_rows_fit log changes) c.stamp.0 → b ≡ changes_fit clock log changes
   unfolding clock_in
-  each_rows m b h g p =
-      p ∙ ap (all_below (record_rows_fit log changes)) (g ∙ ap (λ (x : Clock). x.stamp.0) e)
-      ∙ ap (λ (x : Bool). x && rows clock log changes r) (sym (sym sets-are ∙ not-false t h)) ∙ sym (changes-split clock log changes r)
+  each_rows b h p =
+      p ∙ ap (all_below (record_rows_fit log changes)) (ap (λ (x : Clock). x.stamp.0) e)
+      ∙ ap (λ (x : Bool). x && rows clock log changes r) (sym (sym sets-are ∙ h)) ∙ sym (changes-split clock log changes r)

@@ -7,7 +7,7 @@ ghost use Rattle.bits.specs.All.{all_below};
 ghost use Rattle.tables.specs.Damage.{all_in, clock_fits, records_fit, changes_fit};
 ghost use Rattle.change_damage.specs.Parts.{Gathered, row_below, record_rows_fit, Alike, Rising};
 
-use tables::Row;
+use tables::{MAX_ROWS, Row};
 
 // The n cells from `from` on, as one set: their first half and their second at once.
 fn gathered(cells: &[u32], from: usize, n: usize) -> u32
@@ -17,10 +17,8 @@ fn gathered(cells: &[u32], from: usize, n: usize) -> u32
     let half = (n + 1) / 2;
     let other = from + n / 2;
     let mut all: u32 = 0;
-    let mut p: usize = 0;
-    while p < half {
-        all = all | (cells[from + p] | cells[other + p]);
-        p += 1;
+    for p in 0..half {
+        all |= cells[from + p] | cells[other + p];
     }
     all
 }
@@ -31,10 +29,8 @@ fn rows_below_each(changes: &[u32], from: usize, to: usize, rows: Row) -> bool
     ensures { result ≡ all_in (row_below changes.now rows.0) from to }
 {
     let mut ok = true;
-    let mut p = from;
-    while p < to {
-        ok = ok & (changes[p] < rows.0);
-        p += 1;
+    for p in from..to {
+        ok &= changes[p] < rows.0;
     }
     ok
 }
@@ -45,13 +41,10 @@ fn rows_below(changes: &[u32], from: usize, to: usize, rows: Row) -> bool
     requires { (from ≤ to) × (to ≤ 2048) × (4096 ≤ length changes.now) × (all_in (row_below changes.now rows.0) 0 from ≡ true) }
     ensures { result ≡ all_in (row_below changes.now rows.0) from to }
 {
-    if rows.0 == 2048 {
-        return gathered(changes, from, to - from) < 2048;
+    if rows.0 == MAX_ROWS {
+        return gathered(changes, from, to - from) < MAX_ROWS;
     }
-    if to - from < 8 {
-        return rows_below_each(changes, from, to, rows);
-    }
-    if from < 8 {
+    if to - from < 8 || from < 8 {
         return rows_below_each(changes, from, to, rows);
     }
     rows_below_each(changes, to - (to - from + 7) / 8 * 8, to, rows)
@@ -64,10 +57,7 @@ fn alike_by(log: &[u32], k: usize, n: usize, step: usize) -> usize
 {
     let rows = log[1024 + k];
     let mut e = k;
-    while e + step < n {
-        if log[1024 + (e + step)] != rows {
-            return e;
-        }
+    while e + step < n && log[1024 + (e + step)] == rows {
         e += step;
     }
     e
@@ -96,7 +86,7 @@ fn each_rows_fit(log: &[u32], changes: &[u32], n: usize) -> bool
     while k < n {
         let last = last_alike(log, k, n);
         let rows = Row(log[1024 + last]);
-        let to = bits::wide(log[1536 + last]);
+        let to = log[1536 + last] as usize;
         if !rows_below(changes, from, to, rows) {
             return false;
         }
@@ -113,9 +103,7 @@ pub fn changes_fit(clock: &[u32], log: &[u32], changes: &[u32]) -> bool
     ensures { result ≡ changes_fit clock.now log.now changes.now }
 {
     let c = tables::clock_of(clock);
-    let n = bits::wide(tables::changes_used(clock));
-    if !bits::all_below(gathered(changes, 2048, n), c.values.0) {
-        return false;
-    }
-    each_rows_fit(log, changes, bits::wide(c.stamp.0))
+    let n = tables::changes_used(clock) as usize;
+    bits::all_below(gathered(changes, 2048, n), c.values.0)
+        && each_rows_fit(log, changes, c.stamp.0 as usize)
 }

@@ -2,30 +2,22 @@
 use mathlib.Core.Path.{◌≡◌, refl, sym, ap, ap₂, ◌∙◌}
 use mathlib.Core.Bool.{Bool, true, false, not, ◌&&◌, cond}
 use mathlib.Core.List.{List}
-use Prim.Native.Nat.{ℕ, ◌+◌, ◌-◌, ◌≤◌, ◌<◌}
+use Prim.Native.Nat.{ℕ, ◌+◌, ◌-◌}
 use native.Mathlib.Omega.{arith}
-use borrow.Author.Tests.{eq-eqb, ne_eqb, le-leb, lt-ltb, le-ltb}
+use borrow.Author.Tests.{lt-ltb, le-ltb}
 use lib.Dec.{leb, eqb, ltb}
 use lib.ListN.{get_or}
 use Rattle.bits.specs.All.{all_below}
 use Rattle.tables.specs.declared.clock.Clock.{Clock}
-use Rattle.tables.specs.Cells.{values_in, stamp_in, slots_in, slot_value, slot_stamp, slot_link, head_of}
+use Rattle.tables.specs.Cells.{values_in, stamp_in, slots_in, slot_value, slot_stamp, slot_link}
 use Rattle.tables.specs.Clock.{clock_in}
 use Rattle.tables.specs.Damage.{all_in, clock_fits, first_slot_fits, later_slot_fits, slot_fits, slots_fit, head_fits, heads_fit}
-use Rattle.tables.proofs.Tests.{told, not_so}
 use Rattle.tables.proofs.Facts.{clock-facts}
 use Rattle.damage.specs.Parts.{link_fits}
 use Rattle.tables.proofs.Fold.{below_in, in-join, in-ext}
 
--- a slot below C, whose number the code has under another name
-pub first_slot : (slots : List ℕ) (i n : ℕ) → n ≡ i
-    → eqb (get_or slots i 0) n && eqb (get_or slots (96 + i) 0) 0 && eqb (get_or slots (192 + i) 0) 0 ≡ first_slot_fits slots i
-unfolding first_slot_fits
-first_slot slots i n e = ap (λ (x : ℕ). eqb (get_or slots i 0) x && eqb (get_or slots (96 + i) 0) 0 && eqb (get_or slots (192 + i) 0) 0) e
+-- ---- a later slot
 
--- ---- a link
-
--- one test before four
 one-before : (x a b c d : Bool) → x && (a && b && c && d) ≡ x && a && b && c && d
 one-before true a b c d = refl
 one-before false a b c d = refl
@@ -64,33 +56,21 @@ module _ (clock slots : List ℕ) (f : clock_fits clock ≡ true) where
       (in-ext any later (values_in clock) (slots_in clock) (λ i h l. choose i false (le-ltb i (values_in clock) h)))
 
   -- what the code asks, with the numbers that it copied
-  pub all_slots : (c : Clock) (v u used : ℕ) (a b : Bool) → c ≡ clock_in clock → v ≡ c.values.0 → u ≡ slots_in clock → used ≡ u
-      → a ≡ all_below (first_slot_fits slots) v → b ≡ all_in (later_slot_fits c.values.0 c.stamp.0 slots) c.values.0 used
+  pub all_slots : (c : Clock) (used : ℕ) (a b : Bool) → c ≡ clock_in clock → used ≡ slots_in clock
+      → a ≡ all_below (first_slot_fits slots) c.values.0 → b ≡ all_in (later_slot_fits c.values.0 c.stamp.0 slots) c.values.0 used
       → a && b ≡ slots_fit clock slots
   unfolding clock_in
-  all_slots c v u used a b e g h i p q =
+  all_slots c used a b e i p q =
       let x : c.values.0 ≡ values_in clock = ap (λ (k : Clock). k.values.0) e in
       let y : c.stamp.0 ≡ stamp_in clock = ap (λ (k : Clock). k.stamp.0) e in
-      ap₂ (λ (m n : Bool). m && n) (p ∙ ap (all_below (first_slot_fits slots)) (g ∙ x))
-      (q ∙ ap₂ (λ (m n : ℕ). all_in (later_slot_fits m n slots) m used) x y ∙ ap (all_in later (values_in clock)) (i ∙ h)) ∙ sym slots-split
+      ap₂ (λ (m n : Bool). m && n) (p ∙ ap (all_below (first_slot_fits slots)) x)
+      (q ∙ ap₂ (λ (m n : ℕ). all_in (later_slot_fits m n slots) m used) x y ∙ ap (all_in later (values_in clock)) i) ∙ sym slots-split
 
 -- ---- heads
 
-module _ (slots heads : List ℕ) (used v h : ℕ) (e : h ≡ head_of heads v) where
-  -- one that names no slot in use
-  pub past_head : used ≤ h → false ≡ head_fits used slots heads v
-  unfolding head_fits
-  past_head l = sym (ap (λ (t : Bool). t && eqb (slot_value slots (head_of heads v)) v) (le-ltb (head_of heads v) used (omega arith)))
-
-  pub used-head : h < used → eqb (get_or slots h 0) v ≡ head_fits used slots heads v
-  unfolding head_fits
-  used-head l =
-      ap (λ (x : ℕ). eqb (slot_value slots x) v) e
-      ∙ sym (ap (λ (t : Bool). t && eqb (slot_value slots (head_of heads v)) v) (lt-ltb (head_of heads v) used (omega arith)))
-
-pub all-heads : (clock slots heads : List ℕ) (u used : ℕ) → u ≡ slots_in clock → used ≡ u
+pub all-heads : (clock slots heads : List ℕ) (used : ℕ) → used ≡ slots_in clock
     → heads_fit clock slots heads ≡ all_in (head_fits used slots heads) 0 (values_in clock)
 unfolding heads_fit
-all-heads clock slots heads u used e g =
+all-heads clock slots heads used e =
     below_in (head_fits (slots_in clock) slots heads) (values_in clock)
-    ∙ ap (λ (k : ℕ). all_in (head_fits k slots heads) 0 (values_in clock)) (sym (g ∙ e))
+    ∙ ap (λ (k : ℕ). all_in (head_fits k slots heads) 0 (values_in clock)) (sym e)

@@ -1,10 +1,9 @@
 -- The vectors: those of slots below C, and all while the row count is the first one, are judged at once; else one by one.
 use mathlib.Core.Path.{◌≡◌, sym, ap, ap₂, ◌∙◌}
-use mathlib.Core.Bool.{Bool, true, false, not, ◌&&◌}
+use mathlib.Core.Bool.{Bool, true, false, ◌&&◌}
 use mathlib.Core.List.{List}
 use Prim.Native.Nat.{ℕ, ◌+◌, ◌-◌, ◌*◌, ◌≤◌, ◌<◌}
 use native.Mathlib.Omega.{arith}
-use borrow.Author.Tests.{not-true, not-false}
 use lib.ListN.{length, take, drop}
 use Rattle.bits.specs.All.{all_below}
 use Rattle.bits.proofs.AllLaws.{all-ext}
@@ -22,20 +21,19 @@ use Rattle.tables.proofs.Slots.{each_first, slot-stamp-low}
 use Rattle.damage.specs.Parts.{StampsLow}
 
 -- vector i as the code lends it
-pub one-vector : (first : ℕ) (log slots words : List ℕ) (i s w rows : ℕ) (b : Bool) → s ≡ slot_stamp slots i → w ≡ rows_in_log first log s
-    → rows ≡ w
+pub one-vector : (first : ℕ) (log slots words : List ℕ) (i s rows : ℕ) (b : Bool) → s ≡ slot_stamp slots i → rows ≡ rows_in_log first log s
     → b ≡ tail_clear (take (32 * i + 32 - 32 * i) (drop (32 * i) words)) rows → b ≡ vector_fits first log slots words i
 unfolding vector_fits slot_words part
-one-vector first log slots words i s w rows b e f g q =
-    q ∙ ap₂ tail_clear (part-lent (32 * i) 32 words) (g ∙ f ∙ ap (rows_in_log first log) e)
+one-vector first log slots words i s rows b e f q =
+    q ∙ ap₂ tail_clear (part-lent (32 * i) 32 words) (f ∙ ap (rows_in_log first log) e)
 
 pub room_for : (words : List ℕ) (n : ℕ) → n ≤ 96 → 3072 ≤ length words → 32 * n ≤ length words
 room_for words n h l = omega arith
 
 -- the stamps of slots that fit are stamps of the log
-pub stamps-low : (c slots : List ℕ) (u n : ℕ) → clock_fits c ≡ true → slots_fit c slots ≡ true → u ≡ slots_in c → n ≡ u → StampsLow slots n
+pub stamps-low : (c slots : List ℕ) (n : ℕ) → clock_fits c ≡ true → slots_fit c slots ≡ true → n ≡ slots_in c → StampsLow slots n
 unfolding StampsLow
-stamps-low c slots u n f e o m i l = omega (arith, slot-stamp-low c slots e i (omega arith), (clock-limits c f).few-records)
+stamps-low c slots n f e o i l = omega (arith, slot-stamp-low c slots e i (omega arith), (clock-limits c f).few-records)
 
 pub stamp-low : (slots : List ℕ) (n i : ℕ) → StampsLow slots n → i < n → slot_stamp slots i ≤ 512
 unfolding StampsLow
@@ -66,32 +64,31 @@ module _ (clock log slots words : List ℕ) where
 
   module _ (c : Clock) (e : c ≡ clock_in clock) (t : Bool) where
     -- the row count is still the first one: row counts never fall, so each stamp has it
-    pub one-count : (u n k : ℕ) → records_fit clock log ≡ true → slots_fit clock slots ≡ true → u ≡ slots_in clock → n ≡ u → k ≡ c.first.0
-        → c.rows.0 ≡ c.first.0 → t ≡ tails_clear words n k → t ≡ vectors_fit clock log slots words
+    pub one-count : (n : ℕ) → records_fit clock log ≡ true → slots_fit clock slots ≡ true → n ≡ slots_in clock
+        → c.rows.0 ≡ c.first.0 → t ≡ tails_clear words n c.first.0 → t ≡ vectors_fit clock log slots words
     unfolding vectors_fit clock_in
-    one-count u n k r s o m g z q =
+    one-count n r s m z q =
         let first : c.first.0 ≡ first_in clock = ap (λ (x : Clock). x.first.0) e in
         let rows : c.rows.0 ≡ rows_in clock = ap (λ (x : Clock). x.rows.0) e in
-        q ∙ ap₂ (tails_clear words) (m ∙ o) (g ∙ first) ∙ at_first (slots_in clock) (λ i l. let low = slot-stamp-low clock slots s i l in
+        q ∙ ap₂ (tails_clear words) m first ∙ at_first (slots_in clock) (λ i l. let low = slot-stamp-low clock slots s i l in
         omega (arith, first-low clock log r (slot_stamp slots i) low, rows-high-at clock log r (slot_stamp slots i) low))
 
-    module _ (v k : ℕ) (f : clock_fits clock ≡ true) (s : slots_fit clock slots ≡ true) (x : v ≡ c.values.0) (y : k ≡ c.first.0)
-        (q : t ≡ tails_clear words v k) where
+    module _ (f : clock_fits clock ≡ true) (s : slots_fit clock slots ≡ true) (q : t ≡ tails_clear words c.values.0 c.first.0) where
       -- what the code asks, with the numbers that it copied, once the vectors below C are found clear or not
       asked : (b : Bool) → t ≡ b
-          → vectors_fit clock log slots words ≡ b && all_in (vector_fits c.first.0 log slots words) v (slots_in clock)
+          → vectors_fit clock log slots words ≡ b && all_in (vector_fits c.first.0 log slots words) c.values.0 (slots_in clock)
       unfolding clock_in
       asked b p =
-          let values : v ≡ values_in clock = x ∙ ap (λ (z : Clock). z.values.0) e in
+          let values : c.values.0 ≡ values_in clock = ap (λ (z : Clock). z.values.0) e in
           let first : c.first.0 ≡ first_in clock = ap (λ (z : Clock). z.first.0) e in
-          split f s ∙ sym (ap₂ (λ (g h : Bool). g && h) (sym p ∙ q ∙ ap₂ (tails_clear words) values (y ∙ first))
+          split f s ∙ sym (ap₂ (λ (g h : Bool). g && h) (sym p ∙ q ∙ ap₂ (tails_clear words) values first)
           (ap₂ (λ (m n : ℕ). all_in (vector_fits m log slots words) n (slots_in clock)) first values))
 
       -- one of them is not clear
-      pub first-fails : not t ≡ true → false ≡ vectors_fit clock log slots words
-      first-fails h = sym (asked false (not-true t h))
+      pub first-fails : t ≡ false → t ≡ vectors_fit clock log slots words
+      first-fails h = h ∙ sym (asked false h)
 
       -- all are: the later ones decide
-      pub rest-decides : (u n : ℕ) (b : Bool) → u ≡ slots_in clock → n ≡ u → not t ≡ false
-          → b ≡ all_in (vector_fits c.first.0 log slots words) v n → b ≡ vectors_fit clock log slots words
-      rest-decides u n b o m h w = w ∙ ap (all_in (vector_fits c.first.0 log slots words) v) (m ∙ o) ∙ sym (asked true (not-false t h))
+      pub rest-decides : (n : ℕ) (b : Bool) → n ≡ slots_in clock → t ≡ true
+          → b ≡ all_in (vector_fits c.first.0 log slots words) c.values.0 n → b ≡ vectors_fit clock log slots words
+      rest-decides n b m h w = w ∙ ap (all_in (vector_fits c.first.0 log slots words) c.values.0) m ∙ sym (asked true h)

@@ -2,17 +2,19 @@
 ghost use Rattle.std.specs.Prelude.{◌≡◌, ◌≤◌, length};
 ghost use Rattle.tables.specs.Damage.{clock_fits};
 
+use tables::{MAX_CHANGES, MAX_RECORDS, MAX_ROWS, MAX_SLOTS, MAX_VALUES};
+
 // Whether every count of the clock is within its limit.
 pub fn clock_fits(clock: &[u32]) -> bool
     requires { 6 ≤ length clock.now }
     ensures { result ≡ clock_fits clock.now }
 {
     (1 <= clock[0])
-        & (clock[0] <= 32)
-        & (clock[3] <= 2048)
-        & (clock[1] <= 2048)
-        & (clock[2] <= 512)
+        & (clock[0] <= MAX_VALUES)
+        & (clock[3] <= MAX_ROWS)
+        & (clock[1] <= MAX_ROWS)
+        & (clock[2] <= MAX_RECORDS)
         & (clock[0] <= clock[4])
-        & (clock[4] <= 96)
-        & (clock[5] <= 2048)
+        & (clock[4] <= MAX_SLOTS)
+        & (clock[5] <= MAX_CHANGES)
 }

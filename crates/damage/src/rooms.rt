@@ -5,6 +5,7 @@ ghost use Rattle.tables.specs.Room.{room_for};
 use tables::NumberTables;
 
 // Whether every table has room for its full limit; `places` is the length of the session table.
+#[tactic(auto, unfolding(tables::specs::Room::room_for))]
 pub fn room(t: NumberTables, places: usize) -> bool
     ensures { result ≡ room_for t.entry.clock.now t.entry.slots.now t.entry.words.now t.entry.heads.now
         t.entry.log.now t.entry.changes.now places }
@@ -15,5 +16,5 @@ pub fn room(t: NumberTables, places: usize) -> bool
         & (tables::HEAD_CELLS <= t.heads.len())
         & (tables::LOG_CELLS <= t.log.len())
         & (tables::CHANGE_CELLS <= t.changes.len())
-        & (16 <= places)
+        & (tables::MAX_SESSIONS as usize <= places)
 }

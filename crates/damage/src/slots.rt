@@ -7,11 +7,12 @@ ghost use Rattle.damage.specs.Parts.{link_fits};
 use tables::{Stamp, Value};
 
 // Whether slot i, below C, has value i, stamp 0 and no link.
+#[tactic(auto, unfolding(tables::specs::Damage::first_slot_fits))]
 fn first_slot_fits(slots: &[u32], i: usize) -> bool
     requires { (i < 96) × (288 ≤ length slots.now) }
     ensures { result ≡ first_slot_fits slots.now i }
 {
-    (slots[i] == bits::narrow(i)) & (slots[96 + i] == 0) & (slots[192 + i] == 0)
+    (slots[i] == i as u32) & (slots[96 + i] == 0) & (slots[192 + i] == 0)
 }
 
 // Whether each of the first n slots does.
@@ -20,10 +21,8 @@ fn first_slots_fit(slots: &[u32], n: usize) -> bool
     ensures { result ≡ all_below (first_slot_fits slots.now) n }
 {
     let mut ok = true;
-    let mut i: usize = 0;
-    while i < n {
-        ok = ok & first_slot_fits(slots, i);
-        i += 1;
+    for i in 0..n {
+        ok &= first_slot_fits(slots, i);
     }
     ok
 }
@@ -48,13 +47,11 @@ fn later_slots_fit(slots: &[u32], values: Value, last: Stamp, used: usize) -> bo
     requires { (used ≤ 96) × (288 ≤ length slots.now) }
     ensures { result ≡ all_in (later_slot_fits values.0 last.0 slots.now) values.0 used }
 {
-    let mut i = bits::wide(values.0);
-    while i < used {
+    for i in values.0 as usize..used {
         let fits = (slots[i] < values.0) & (slots[96 + i] <= last.0);
         if !(fits & link_fits(slots, i)) {
             return false;
         }
-        i += 1;
     }
     true
 }
@@ -65,20 +62,18 @@ pub fn slots_fit(clock: &[u32], slots: &[u32]) -> bool
     ensures { result ≡ slots_fit clock.now slots.now }
 {
     let c = tables::clock_of(clock);
-    let used = bits::wide(tables::slots_used(clock));
-    first_slots_fit(slots, bits::wide(c.values.0)) & later_slots_fit(slots, c.values, c.stamp, used)
+    let used = tables::slots_used(clock) as usize;
+    first_slots_fit(slots, c.values.0 as usize) & later_slots_fit(slots, c.values, c.stamp, used)
 }
 
 // Whether head v names a slot in use of value v.
+#[tactic(auto, unfolding(tables::specs::Damage::head_fits))]
 fn head_fits(slots: &[u32], heads: &[u32], used: usize, v: Value) -> bool
     requires { (v.0 < 32) × (used ≤ 96) × (288 ≤ length slots.now) × (32 ≤ length heads.now) }
     ensures { result ≡ head_fits used slots.now heads.now v.0 }
 {
     let h = tables::head_of(heads, v);
-    if used <= h {
-        return false;
-    }
-    slots[h] == v.0
+    h < used && slots[h] == v.0
 }
 
 // Whether every head below C is sound.
@@ -86,14 +81,11 @@ pub fn heads_fit(clock: &[u32], slots: &[u32], heads: &[u32]) -> bool
     requires { (6 ≤ length clock.now) × (288 ≤ length slots.now) × (32 ≤ length heads.now) × (clock_fits clock.now ≡ true) }
     ensures { result ≡ heads_fit clock.now slots.now heads.now }
 {
-    let values = clock[0];
-    let used = bits::wide(tables::slots_used(clock));
-    let mut v: u32 = 0;
-    while v < values {
+    let used = tables::slots_used(clock) as usize;
+    for v in 0..clock[0] {
         if !head_fits(slots, heads, used, Value(v)) {
             return false;
         }
-        v += 1;
     }
     true
 }

@@ -13,10 +13,9 @@ fn vector_fits(log: &[u32], slots: &[u32], words: &[u64], first: Row, i: usize) 
     ensures { result ≡ vector_fits first.0 log.now slots.now words.now i }
 {
     let s = tables::slot_stamp(slots, i);
-    let rows = bits::wide(tables::rows_at(log, first, s).0);
+    let rows = tables::rows_at(log, first, s).0 as usize;
     let a = 32 * i;
-    let e = a + 32;
-    vectors::tail_clear(&words[a..e], rows)
+    vectors::tail_clear(&words[a..a + 32], rows)
 }
 
 // Whether each of the vectors from `from` to n does.
@@ -32,12 +31,10 @@ fn each_vector_fits(
         × StampsLow slots.now n }
     ensures { result ≡ all_in (vector_fits first.0 log.now slots.now words.now) from n }
 {
-    let mut i = from;
-    while i < n {
+    for i in from..n {
         if !vector_fits(log, slots, words, first, i) {
             return false;
         }
-        i += 1;
     }
     true
 }
@@ -50,14 +47,12 @@ pub fn vectors_fit(clock: &[u32], log: &[u32], slots: &[u32], words: &[u64]) -> 
     ensures { result ≡ vectors_fit clock.now log.now slots.now words.now }
 {
     let c = tables::clock_of(clock);
-    let first = c.first;
-    let n = bits::wide(tables::slots_used(clock));
-    if c.rows.0 == first.0 {
-        return vectors::tails_clear(words, n, bits::wide(first.0));
+    let n = tables::slots_used(clock) as usize;
+    let first = c.first.0 as usize;
+    if c.rows.0 == c.first.0 {
+        return vectors::tails_clear(words, n, first);
     }
-    let whole = bits::wide(c.values.0);
-    if !vectors::tails_clear(words, whole, bits::wide(first.0)) {
-        return false;
-    }
-    each_vector_fits(log, slots, words, first, whole, n)
+    let whole = c.values.0 as usize;
+    vectors::tails_clear(words, whole, first)
+        && each_vector_fits(log, slots, words, c.first, whole, n)
 }

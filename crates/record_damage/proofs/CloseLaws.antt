@@ -1,9 +1,9 @@
 -- The records at once: what each is off by is gathered, modulo 2 ^ 32. Where that is little, the records fit.
 use mathlib.Core.Path.{◌≡◌, refl, sym, ap, ◌∙◌}
-use mathlib.Core.Bool.{Bool, true, ◌&&◌, ◌||◌}
+use mathlib.Core.Bool.{true, ◌&&◌, ◌||◌}
 use mathlib.Core.List.{List}
 use mathlib.Core.Logic.{◌⊎◌, inl, inr, ⊎_elim}
-use Prim.Native.Nat.{ℕ, zero, suc, ◌+◌, ◌-◌, ◌*◌, ◌≤◌, ◌<◌}
+use Prim.Native.Nat.{ℕ, zero, suc, ◌+◌, ◌-◌, ◌*◌, ◌%◌, ◌≤◌, ◌<◌}
 use native.Mathlib.Omega.{arith}
 use borrow.Author.Tests.{le-leb, lt-leb}
 use lib.Bits.{bit_or, or_add_and, and_le_r, and_le_l}
@@ -18,19 +18,15 @@ use Rattle.record_damage.proofs.RecordLaws.{later-record}
 
 -- ---- how far a number is above another
 
-pub gap-above : (a b : ℕ) → b ≤ a → a - b ≡ gap a b
-unfolding gap
-gap-above a b h = rw (le-leb b a h)
-
-pub gap_below : (a b : ℕ) → a < b → b ≤ 4294967295 → a + (4294967295 - b) + 1 ≡ gap a b
-unfolding gap
-gap_below a b h l = rw (lt-leb b a h) (omega arith)
-
 -- above it, or below it and so far off
 gap-cases : (a b : ℕ) → ((b ≤ a) × (gap a b ≡ a - b)) ⊎ ((a < b) × (gap a b ≡ a + (4294967296 - b)))
 unfolding gap
 gap-cases a b =
     ⊎_elim (λ (h : a < b). inr (h, rw (lt-leb b a h))) (λ (h : b ≤ a). inl (h, rw (le-leb b a h))) (lt-cases a b)
+
+-- as `wrapping_sub` has it
+gap-wraps : (a b : ℕ) → a < 4294967296 → b < 4294967296 → (a + (4294967296 - b)) % 4294967296 ≡ gap a b
+gap-wraps a b h l = ⊎_elim (λ p. omega arith) (λ p. omega arith) (gap-cases a b)
 
 -- not far above: not below
 gap-rises : (a b top : ℕ) → gap a b ≤ top → top < 4194304 → b < 4290772992 → (b ≤ a) × (a ≤ b + 4194304)
@@ -51,13 +47,18 @@ pub within_none : (g : ℕ → ℕ) (a top : ℕ) → Within g a a top
 unfolding Within
 within_none g a top k h l = absurd (omega arith)
 
-pub within_more : (g : ℕ → ℕ) (a b top r : ℕ) → Within g a b top → r ≡ g b → Within g a (b + 1) (bit_or top r)
+within_more : (g : ℕ → ℕ) (a b top r : ℕ) → Within g a b top → r ≡ g b → Within g a (b + 1) (bit_or top r)
 unfolding Within
 within_more g a b top r w e k h l = go (lt-cases k b)
   where
     go : (k < b) ⊎ (b ≤ k) → g k ≤ bit_or top r
     go (inl m) = omega (arith, w k h m, or-over top r)
     go (inr m) = let z : k ≡ b = omega arith in let y : g k ≡ r = ap g z ∙ sym e in omega (arith, or-over top r)
+
+-- gathered from `wrapping_sub`
+pub wraps_more : (g : ℕ → ℕ) (n top a b : ℕ) → Within g 1 n top → a < 4294967296 → b < 4294967296 → g n ≡ gap a b
+    → Within g 1 (n + 1) (bit_or top ((a + (4294967296 - b)) % 4294967296))
+wraps_more g n top a b w h l e = within_more g 1 n top ((a + (4294967296 - b)) % 4294967296) w (gap-wraps a b h l ∙ sym e)
 
 -- what record k + 1 is off by
 abbrev pub stamp_off : List ℕ → ℕ → ℕ
@@ -71,10 +72,6 @@ rows_off log k = gap (get_or log (1024 + k) 0) (get_or log (1023 + k) 0)
 
 abbrev pub end_off : List ℕ → ℕ → ℕ
 end_off log k = gap (get_or log (1536 + k) 0) (get_or log (1535 + k) 0)
-
-pub stamps-more : (log : List ℕ) (b top r n : ℕ) → Within (stamp_off log) 1 b top → n ≡ b → r ≡ gap (get_or log b 0) (n + 1)
-    → Within (stamp_off log) 1 (b + 1) (bit_or top r)
-stamps-more log b top r n w e q = within_more (stamp_off log) 1 b top r w (q ∙ ap (λ (x : ℕ). gap (get_or log b 0) (x + 1)) e)
 
 -- ---- numbers that rise by little each time stay small, so that none wrapped
 
@@ -133,8 +130,8 @@ module _ (log : List ℕ) (n k stamps kinds rows ends : ℕ) (few : n ≤ 512) (
         let q = kind_fits j l in
         let a = rows_fit j l in
         let b = end_fits j l in
-        sym (later-record log (suc j) (suc j) (eqb (get_or log (512 + suc j) 0) 1 || eqb (get_or log (512 + suc j) 0) 2)
-        (omega arith) refl refl)
+        sym (later-record log (suc j) (eqb (get_or log (512 + suc j) 0) 1 || eqb (get_or log (512 + suc j) 0) 2)
+        (omega arith) refl)
         ∙ search made depth 8
 
   pub close-fits : eqb stamps 0 && ltb kinds 2 && ltb rows 4194304 && ltb ends 4194304 && (leb (get_or log 1024 0) 2048 && leb
@@ -144,7 +141,3 @@ module _ (log : List ℕ) (n k stamps kinds rows ends : ℕ) (few : n ≤ 512) (
       in-of (record_fits 0 log) 1 n
       (record-fits (search told depth 8) (search told depth 8) (search told depth 8) (search told depth 8) (search told depth 8)
       (search told depth 8))
-
--- at once, or one by one
-pub close-records : (w t : Bool) → (t ≡ true → w ≡ true) → t ≡ true → true ≡ w
-close-records w t f e = sym (f e)

@@ -23,16 +23,16 @@ abbrev kind_ok : List ℕ → ℕ → Bool
 kind_ok log i = eqb (get_or log i 0) 1 || eqb (get_or log i 0) 2
 
 -- a later record, whose neighbour before lies one cell before
-pub later-record : (log : List ℕ) (k n : ℕ) (kind : Bool) → 0 < k → n ≡ k → kind ≡ kind_ok log (512 + k)
-    → eqb (get_or log k 0) (n + 1) && kind && leb (get_or log (1023 + k) 0) (get_or log (1024 + k) 0)
+pub later-record : (log : List ℕ) (k : ℕ) (kind : Bool) → 0 < k → kind ≡ kind_ok log (512 + k)
+    → eqb (get_or log k 0) (k + 1) && kind && leb (get_or log (1023 + k) 0) (get_or log (1024 + k) 0)
     && leb (get_or log (1535 + k) 0) (get_or log (1536 + k) 0)
     ≡ record_fits 0 log k
 unfolding record_fits
-later-record log zero n kind h e q = absurd (omega arith)
-later-record log (suc k) n kind h e q =
+later-record log zero kind h q = absurd (omega arith)
+later-record log (suc k) kind h q =
     let a : 1023 + suc k ≡ 1024 + k = omega arith in
     let b : 1535 + suc k ≡ 1536 + k = omega arith in
-    rw (e, q, a, b)
+    rw (q, a, b)
 
 -- record 1
 pub first-record : (log : List ℕ) (first n : ℕ) (kind : Bool) → kind ≡ kind_ok log 512
@@ -52,16 +52,16 @@ each log first s n a b e p q =
     ∙ sym (below-front (record_fits first log) n) ∙ ap (all_below (record_fits first log)) e
 
 -- and the last
-pub all-records : (clock log : List ℕ) (c : Clock) (n end u used rows : ℕ) (a b : Bool) → c ≡ clock_in clock → n ≡ c.stamp.0
-    → end ≡ end_at log c.stamp.0 → u ≡ changes_in clock → used ≡ u → rows ≡ rows_in_log c.first.0 log c.stamp.0
-    → a ≡ (eqb n 0 || record_fits c.first.0 log 0) → b ≡ all_in (record_fits 0 log) 1 n
+pub all-records : (clock log : List ℕ) (c : Clock) (end used rows : ℕ) (a b : Bool) → c ≡ clock_in clock
+    → end ≡ end_at log c.stamp.0 → used ≡ changes_in clock → rows ≡ rows_in_log c.first.0 log c.stamp.0
+    → a ≡ (eqb c.stamp.0 0 || record_fits c.first.0 log 0) → b ≡ all_in (record_fits 0 log) 1 c.stamp.0
     → a && b && eqb end used && eqb rows c.rows.0 ≡ records_fit clock log
 unfolding records_fit clock_in
-all-records clock log c n end u used rows a b e f g h o i j k =
+all-records clock log c end used rows a b e g h i j k =
     let s : c.stamp.0 ≡ stamp_in clock = ap (λ (x : Clock). x.stamp.0) e in
     let t : c.first.0 ≡ first_in clock = ap (λ (x : Clock). x.first.0) e in
     ap₂ (λ (x y : Bool). x && y)
     (ap₂ (λ (x y : Bool). x && y)
-    (each log (first_in clock) (stamp_in clock) n a b (f ∙ s) (j ∙ ap (λ (x : ℕ). eqb n 0 || record_fits x log 0) t) k)
-    (ap₂ eqb (g ∙ ap (end_at log) s) (o ∙ h)))
+    (each log (first_in clock) (stamp_in clock) c.stamp.0 a b s (j ∙ ap (λ (x : ℕ). eqb c.stamp.0 0 || record_fits x log 0) t) k)
+    (ap₂ eqb (g ∙ ap (end_at log) s) h))
     (ap₂ eqb (i ∙ ap₂ (λ (x y : ℕ). rows_in_log x log y) t s) (ap (λ (x : Clock). x.rows.0) e))

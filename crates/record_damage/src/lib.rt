@@ -4,26 +4,14 @@
 
 ghost use Rattle.std.specs.Prelude.{◌≡◌, true, ◌||◌, ◌+◌, ◌<◌, ◌≤◌, length, eqb};
 ghost use Rattle.tables.specs.Damage.{all_in, clock_fits, record_fits, records_fit};
-ghost use Rattle.record_damage.specs.Parts.{gap};
 
-use tables::Row;
+use tables::{MAX_CHANGES, MAX_ROWS, Row};
 
-// Whether a record has one of the two kinds.
+// Whether a record has one of the two kinds; the lent cells hold plain numbers.
 fn kind_known(kind: u32) -> bool
     ensures { result ≡ (eqb kind 1 || eqb kind 2) }
 {
-    (kind == 1) | (kind == 2)
-}
-
-// How far a is above b, modulo 2 ^ 32.
-fn off(a: u32, b: u32) -> u32
-    ensures { result ≡ gap a b }
-{
-    if b <= a {
-        a - b
-    } else {
-        a + (4294967295 - b) + 1
-    }
+    matches!(kind, 1 | 2)
 }
 
 // Whether record k + 1 bears that stamp and a kind, and its row count and its end do not fall.
@@ -31,7 +19,7 @@ fn later_record_fits(log: &[u32], k: usize) -> bool
     requires { (0 < k) × (k < 512) × (2048 ≤ length log.now) }
     ensures { result ≡ record_fits 0 log.now k }
 {
-    let stamp = log[k] == bits::narrow(k) + 1;
+    let stamp = log[k] == k as u32 + 1;
     let kind = kind_known(log[512 + k]);
     let rows = log[1023 + k] <= log[1024 + k];
     let end = log[1535 + k] <= log[1536 + k];
@@ -44,10 +32,8 @@ fn later_records_fit_each(log: &[u32], n: usize) -> bool
     ensures { result ≡ all_in (record_fits 0 log.now) 1 n }
 {
     let mut ok = true;
-    let mut k: usize = 1;
-    while k < n {
-        ok = ok & later_record_fits(log, k);
-        k += 1;
+    for k in 1..n {
+        ok &= later_record_fits(log, k);
     }
     ok
 }
@@ -62,15 +48,13 @@ fn later_records_close(log: &[u32], n: usize) -> bool
     let mut kinds: u32 = 0;
     let mut rows: u32 = 0;
     let mut ends: u32 = 0;
-    let mut k: usize = 1;
-    while k < n {
-        stamps = stamps | off(log[k], bits::narrow(k) + 1);
-        kinds = kinds | off(log[512 + k], 1);
-        rows = rows | off(log[1024 + k], log[1023 + k]);
-        ends = ends | off(log[1536 + k], log[1535 + k]);
-        k += 1;
+    for k in 1..n {
+        stamps |= log[k].wrapping_sub(k as u32 + 1);
+        kinds |= log[512 + k].wrapping_sub(1);
+        rows |= log[1024 + k].wrapping_sub(log[1023 + k]);
+        ends |= log[1536 + k].wrapping_sub(log[1535 + k]);
     }
-    let low = (log[1024] <= 2048) & (log[1536] <= 2048);
+    let low = (log[1024] <= MAX_ROWS) & (log[1536] <= MAX_CHANGES);
     (stamps == 0) & (kinds < 2) & (rows < 4194304) & (ends < 4194304) & low
 }
 
@@ -100,10 +84,8 @@ pub fn records_fit(clock: &[u32], log: &[u32]) -> bool
     ensures { result ≡ records_fit clock.now log.now }
 {
     let c = tables::clock_of(clock);
-    let first = c.first;
-    let last = c.stamp;
-    let n = bits::wide(last.0);
-    let end = tables::end_at(log, last) == bits::wide(tables::changes_used(clock));
-    let rows = tables::rows_at(log, first, last).0 == c.rows.0;
-    first_record_fits(log, first, n) & later_records_fit(log, n) & end & rows
+    let n = c.stamp.0 as usize;
+    let end = tables::end_at(log, c.stamp) == tables::changes_used(clock) as usize;
+    let rows = tables::rows_at(log, c.first, c.stamp).0 == c.rows.0;
+    first_record_fits(log, c.first, n) & later_records_fit(log, n) & end & rows
 }

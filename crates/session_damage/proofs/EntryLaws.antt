@@ -22,13 +22,12 @@ use Rattle.tables.proofs.Tests.{told, made, not_so, found-false}
 use Rattle.session_damage.proofs.OnceLaws.{once-few}
 
 -- a list whose rows and targets, each gathered in one number, are 0
-pub zero-gathered : (at to : List ℕ) (i rows targets : ℕ) → rows ≡ or_below (λ j. get_or at j 0) i → targets ≡ or_below (λ j. get_or to j 0) i
-    → i ≤ 32 → 32 ≤ i
+pub zero-gathered : (at to : List ℕ) (i j rows targets : ℕ) → rows ≡ or_below (λ k. get_or at k 0) i → targets ≡ or_below (λ k. get_or to k 0) j
+    → i ≡ 32 → j ≡ 32
     → eqb rows 0 && eqb targets 0 ≡ all_below (zero_at at to) 32
 unfolding zero_at
-zero-gathered at to i rows targets p q h l =
-    let z : i ≡ 32 = omega arith in
-    ap₂ (λ (x y : ℕ). eqb x 0 && eqb y 0) (p ∙ ap (or_below (λ j. get_or at j 0)) z) (q ∙ ap (or_below (λ j. get_or to j 0)) z)
+zero-gathered at to i j rows targets p q h l =
+    ap₂ (λ (x y : ℕ). eqb x 0 && eqb y 0) (p ∙ ap (or_below (λ k. get_or at k 0)) h) (q ∙ ap (or_below (λ k. get_or to k 0)) l)
     ∙ ap₂ (λ (x y : Bool). x && y) (or-all (λ j. get_or at j 0) 32) (or-all (λ j. get_or to j 0) 32)
     ∙ sym (all-and (λ j. eqb (get_or at j 0) 0) (λ j. eqb (get_or to j 0) 0) 32)
 
@@ -55,45 +54,31 @@ module _ (at to : List ℕ) (count rows values : ℕ) where
   unfolding entries_fit
   entries-made f = search made depth 8
 
-  -- too many entries, too many rows, too many values
-  pub long-list : 32 < count → false ≡ entries_fit at to count rows values
-  long-list h = not_so (entries_fit at to count rows values) (λ e. omega (arith, (entries-facts e).count_low))
-
-  pub many-rows : 2048 < rows → false ≡ entries_fit at to count rows values
-  many-rows h = not_so (entries_fit at to count rows values) (λ e. omega (arith, (entries-facts e).rows-low))
-
-  pub many-values : 32 < values → false ≡ entries_fit at to count rows values
-  many-values h = not_so (entries_fit at to count rows values) (λ e. omega (arith, (entries-facts e).values_low))
-
   -- an entry that does not fit
-  module _ (n : ℕ) (b : Bool) (e : n ≡ count) (q : b ≡ all_below (listed values rows at to) n) where
-    listed-is : b ≡ all_below (listed values rows at to) count
-    listed-is = q ∙ ap (all_below (listed values rows at to)) e
-
+  module _ (b : Bool) (q : b ≡ all_below (listed values rows at to) count) where
     pub bad-entry : not b ≡ true → false ≡ entries_fit at to count rows values
     bad-entry h =
         not_so (entries_fit at to count rows values)
-        (λ z. found-false b (all_below (listed values rows at to) count) listed-is h (entries-facts z).all_listed)
+        (λ z. found-false b (all_below (listed values rows at to) count) q h (entries-facts z).all_listed)
 
     -- rows below 2,048, as a vector of rows needs
-    pub rows-in-vector : rows ≤ 2048 → not b ≡ false → RowsLow at n
+    pub rows-in-vector : rows ≤ 2048 → not b ≡ false → RowsLow at count
     unfolding RowsLow listed
     rows-in-vector h l i m o =
         ⊎_elim (λ p. omega (arith, p.0)) (λ p. absurd (o p.0))
-        (entry-facts values rows (get_or at i 0) (get_or to i 0) (all-at (listed values rows at to) n (sym q ∙ not-false b l) i m))
+        (entry-facts values rows (get_or at i 0) (get_or to i 0) (all-at (listed values rows at to) count (sym q ∙ not-false b l) i m))
 
     module _ (h : count ≤ 32) (l : rows ≤ 2048) (m : values ≤ 32) (o : not b ≡ false) where
       -- a list of at most one entry
-      pub short-list : n < 2 → true ≡ entries_fit at to count rows values
+      pub short-list : count < 2 → true ≡ entries_fit at to count rows values
       short-list k =
-          let p = sym listed-is ∙ not-false b o in
-          let q = once-few at count (omega arith) in
+          let p = sym q ∙ not-false b o in
+          let u = once-few at count k in
           sym (entries-made (search))
 
-      pub once-decides : (r : Bool) → r ≡ all_below (once_in at) n → r ≡ entries_fit at to count rows values
+      pub once-decides : (r : Bool) → r ≡ all_below (once_in at) count → r ≡ entries_fit at to count rows values
       once-decides r k =
-          let p = sym listed-is ∙ not-false b o in
+          let p = sym q ∙ not-false b o in
           same_truth r (entries_fit at to count rows values)
-          (λ z. let q = ap (all_below (once_in at)) (sym e) ∙ sym k ∙ z in
-          entries-made (search))
-          (λ z. k ∙ ap (all_below (once_in at)) e ∙ (entries-facts z).all_once)
+          (λ z. let u = sym k ∙ z in entries-made (search))
+          (λ z. k ∙ (entries-facts z).all_once)

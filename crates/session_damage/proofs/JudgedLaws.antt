@@ -1,11 +1,10 @@
 -- A session as the code judges it, and what that says of sound tables.
 use mathlib.Core.Path.{◌≡◌, sym, ap, ◌∙◌}
-use mathlib.Core.Bool.{Bool, true, false, not, ◌&&◌, ◌||◌, and-false, or-false}
+use mathlib.Core.Bool.{Bool, true, false, ◌&&◌, ◌||◌, and-false, or-false, true≢false}
 use mathlib.Core.List.{List}
 use mathlib.Core.Logic.{⊎_elim}
 use Prim.Native.Nat.{ℕ, ◌≤◌}
 use native.Mathlib.Omega.{arith}
-use borrow.Author.Tests.{not-false}
 use lib.Dec.{eqb}
 use lib.ListN.{length}
 use Rattle.bits.specs.All.{all_below}
@@ -18,7 +17,7 @@ use Rattle.tables.specs.Damage.{all_zero, once_fits, open_fits}
 use Rattle.tables.proofs.Sessions.{zero-facts}
 use Rattle.session_damage.specs.Parts.{listed, once_in, entries_fit, start_fits}
 use Rattle.session_damage.specs.Judged.{judgeable, session_judged}
-use Rattle.tables.proofs.Tests.{told, made, both, and_both, either, or_right, not_so, found-false}
+use Rattle.tables.proofs.Tests.{told, made, both, and_both, either, or_right, not_so}
 use Rattle.session_damage.proofs.StartLaws.{start-facts}
 use Rattle.session_damage.proofs.EntryLaws.{entries-facts, entries-made}
 
@@ -88,14 +87,14 @@ module _ (x : Session) (log : List ℕ) (c : Clock) where
         let f = open-tests c.values.0 c.first.0 c.stamp.0 log x j.1 in
         search made
 
-    pub bad-start : not b ≡ true → false ≡ session_judged x log c
-    bad-start n = not_so (session_judged x log c) (λ z. found-false b (start_fits x.start.0 x.rows.0 log c) e n (start_of z))
+    pub bad-start : b ≡ false → b ≡ session_judged x log c
+    bad-start n = n ∙ not_so (session_judged x log c) (λ z. true≢false (sym (start_of z) ∙ sym e ∙ n))
 
-    pub entries-decide : (r : Bool) → not b ≡ false → r ≡ entries_fit x.at x.to x.count x.rows.0 c.values.0
+    pub entries-decide : (r : Bool) → b ≡ true → r ≡ entries_fit x.at x.to x.count x.rows.0 c.values.0
         → r ≡ session_judged x log c
     entries-decide r n q =
         same_truth r (session_judged x log c)
-        (λ z. let s = start-facts x.start.0 x.rows.0 log c (sym e ∙ not-false b n) in
+        (λ z. let s = start-facts x.start.0 x.rows.0 log c (sym e ∙ n) in
         let f = entries-facts x.at x.to x.count x.rows.0 c.values.0 (sym q ∙ z) in
         open-judged (limits-made (search)) (tests-open c.values.0 c.first.0 c.stamp.0 log x (search)))
         (λ z. let j = judged-open z h in

@@ -2,11 +2,13 @@
 use mathlib.Core.Path.{◌≡◌, refl, sym, ap, ap₂, ◌∙◌, subst}
 use mathlib.Core.Bool.{Bool, true, false, not, ◌&&◌, ◌||◌, cond, and-true, or-true}
 use mathlib.Core.List.{List}
-use Prim.Native.Nat.{ℕ, ◌+◌, ◌/◌, ◌%◌, ◌<◌}
+use Prim.Native.Nat.{ℕ, ◌+◌, ◌/◌, ◌%◌, ◌≤◌, ◌<◌}
 use native.Mathlib.Omega.{arith}
 use borrow.Author.Tests.{eq-eqb, ne_eqb}
 use lib.Dec.{eqb}
-use lib.ListN.{length, get_or, replicate, length-replicate, get_or-replicate}
+use lib.ListN.{length, get_or, take, replicate, length-replicate, get_or-replicate}
+use Rattle.std.proofs.lemmas.List.{get_or-take}
+use Rattle.std.proofs.Common.{length-take}
 use Rattle.bits.specs.All.{all_below}
 use Rattle.bits.proofs.AllLaws.{all_of, all_none, all_more}
 use Rattle.bits.specs.Bit.{bit}
@@ -72,35 +74,45 @@ module _ (at : List ℕ) (i : ℕ) (seen : List ℕ) (s : Seen at i seen) where
       ap not q ∙ s.rows row l ∙ ap (λ (x : ℕ). all_below (other at x) i) e
       ∙ ap (λ (t : Bool). t || all_below (other at (get_or at i 0)) i) (sym (ne_eqb (get_or at i 0) 65535 (λ z. omega arith)))
 
+-- ---- the loop over the first n entries, where x is the row of entry i: the whole is the rest from entry i on
+
+-- one of the first n entries
+pub record Entry (at : List ℕ) (n i x : ℕ) : Type 0 where
+  pub in_list : i < n
+  pub stands : x ≡ get_or at i 0
+
+pub entry-at : (at : List ℕ) (n i : ℕ) → n ≤ 32 → length at ≡ 32 → i < length (take n at) → Entry at n i (get_or (take n at) i 0)
+entry-at at n i h e l =
+    let k : i < n = omega (arith, length-take n at) in
+    record { in_list = k; stands = get_or-take n at i 0 k }
+
 -- a row below 2,048, as a vector of rows needs
-pub row_low : (at : List ℕ) (n i row : ℕ) → RowsLow at n → i < n → (get_or at i 0 ≡ 65535 → ⊥) → row ≡ get_or at i 0 → row < 2048
+pub row_low : (at : List ℕ) (n i x row : ℕ) → row ≡ x → (x ≡ 65535 → ⊥) → Entry at n i x → RowsLow at n → row < 2048
 unfolding RowsLow
-row_low at n i row h l m e = omega (arith, h i l m)
+row_low at n i x row e m k h = omega (arith, h i k.in_list (λ z. m (k.stands ∙ z)), k.stands)
 
--- ---- the loop, with the numbers that the code copied: the whole is the rest from entry i on
-
-module _ (at : List ℕ) (n i : ℕ) (seen : List ℕ) (w : Bool) (e : w ≡ all_in (once_in at) i n) (s : Seen at i seen) (l : i < n) where
+module _ (at : List ℕ) (n i x : ℕ) (seen : List ℕ) (w : Bool) (e : w ≡ all_in (once_in at) i n) (s : Seen at i seen) (k : Entry at n i x) where
   -- an insert
-  pub insert-rest : get_or at i 0 ≡ 65535 → w ≡ all_in (once_in at) (i + 1) n
-  insert-rest h = scan-again (once_in at) w true i n e l (once-insert at i seen s h) refl
+  pub insert-rest : x ≡ 65535 → w ≡ all_in (once_in at) (i + 1) n
+  insert-rest h = scan-again (once_in at) w true i n e k.in_list (once-insert at i seen s (sym k.stands ∙ h)) refl
 
-  pub insert-seen : (next : List ℕ) → get_or at i 0 ≡ 65535 → next ≡ seen → Seen at (i + 1) next
-  insert-seen next h q = subst (λ (k : List ℕ). Seen at (i + 1) k) (sym q) (seen-insert at i seen s h)
+  pub insert-seen : (next : List ℕ) → x ≡ 65535 → next ≡ seen → Seen at (i + 1) next
+  insert-seen next h q = subst (λ (ws : List ℕ). Seen at (i + 1) ws) (sym q) (seen-insert at i seen s (sym k.stands ∙ h))
 
-  module _ (row : ℕ) (b : Bool) (o : RowsLow at n) (h : get_or at i 0 ≡ 65535 → ⊥) (r : row ≡ get_or at i 0) (q : b ≡ bit_at seen row) where
+  module _ (row : ℕ) (b : Bool) (o : RowsLow at n) (h : x ≡ 65535 → ⊥) (r : row ≡ x) (q : b ≡ bit_at seen row) where
     tested : not b ≡ once_in at i
-    tested = once-row at i seen s row b r (row_low at n i row o l h r) q
+    tested = once-row at i seen s row b (r ∙ k.stands) (row_low at n i x row r h k o) q
 
     -- a row that was seen
     pub row-twice : b ≡ true → false ≡ w
-    row-twice y = scan-fails (once_in at) w (not b) i n e l tested (ap (λ (t : Bool). not (not t)) y)
+    row-twice y = scan-fails (once_in at) w (not b) i n e k.in_list tested (ap (λ (t : Bool). not (not t)) y)
 
     -- a row that was not
     pub row-rest : b ≡ false → w ≡ all_in (once_in at) (i + 1) n
-    row-rest y = scan-again (once_in at) w (not b) i n e l tested (ap (λ (t : Bool). not (not t)) y)
+    row-rest y = scan-again (once_in at) w (not b) i n e k.in_list tested (ap (λ (t : Bool). not (not t)) y)
 
     pub row_seen : (put next : List ℕ) → put ≡ put_at seen row true → next ≡ put → Seen at (i + 1) next
-    row_seen put next p k = seen-row at i seen s row next r (row_low at n i row o l h r) (k ∙ p)
+    row_seen put next p f = seen-row at i seen s row next (r ∙ k.stands) (row_low at n i x row r h k o) (f ∙ p)
 
 -- a list of at most one entry
 pub once-few : (at : List ℕ) (n : ℕ) → n < 2 → all_below (once_in at) n ≡ true

@@ -55,37 +55,29 @@ module _ (at to : List ℕ) (rows values : ℕ) where
             or_left _ (bit seen (get_or at j 0 % 64)) (eq-eqb (row % 64) (get_or at j 0 % 64) (ap (λ (x : ℕ). x % 64) (r
             ∙ ap (λ (x : ℕ). get_or at x 0) z)))
 
-    next-fit : ok && ltb row rows && ltb target values && not b ≡ true
+    next-fit : ok && (ltb row rows && ltb target values && not b) ≡ true
         → (all_below (listed values rows at to) (i + 1) ≡ true) × (all_below (once_in at) (i + 1) ≡ true)
     next-fit e =
-        let x : _ = both (ok && ltb row rows && ltb target values) (not b) e in
-        let y : _ = both (ok && ltb row rows) (ltb target values) x.0 in
-        let z : _ = both ok (ltb row rows) y.0 in
-        let f : _ = p.all_fit z.0 in (
+        let x : _ = both ok (ltb row rows && ltb target values && not b) e in
+        let y : _ = both (ltb row rows && ltb target values) (not b) x.1 in
+        let z : _ = both (ltb row rows) (ltb target values) y.0 in
+        let f : _ = p.all_fit x.0 in (
           all_more (listed values rows at to) i
-              ∙ and_both _ _ f.0 (listed_plain i (ap (λ (w : ℕ). ltb w rows) (sym r) ∙ z.1) (ap (λ (w : ℕ). ltb w values) (sym t)
-              ∙ y.1)),
+              ∙ and_both _ _ f.0 (listed_plain i (ap (λ (w : ℕ). ltb w rows) (sym r) ∙ z.0) (ap (λ (w : ℕ). ltb w values) (sym t)
+              ∙ z.1)),
           all_more (once_in at) i
               ∙ and_both _ _ f.1 (once-plain i seen p.all_seen (ap (λ (w : ℕ). bit seen (w % 64)) (sym r) ∙ sym q
-              ∙ not-true b x.1)),
+              ∙ not-true b y.1)),
         )
 
-    pub plain_more : Plain at to rows values (i + 1) next (ok && ltb row rows && ltb target values && not b)
+    pub plain_more : Plain at to rows values (i + 1) next (ok && (ltb row rows && ltb target values && not b))
     plain_more = record { all_seen = next-seen; all_fit = next-fit }
 
-  -- every entry was looked at
-  pub plain_end : (n i seen : ℕ) (ok : Bool) → Plain at to rows values i seen ok → i ≤ n → n ≤ i → ok ≡ true
-      → (all_below (listed values rows at to) n ≡ true) × (all_below (once_in at) n ≡ true)
-  plain_end n i seen ok p h l e =
-      let z : i ≡ n = omega arith in
-      let f : _ = p.all_fit e in
-      (ap (all_below (listed values rows at to)) (sym z) ∙ f.0, ap (all_below (once_in at)) (sym z) ∙ f.1)
-
   -- a plain list fits
-  pub plain-list : (count n : ℕ) (b : Bool) → count ≤ 32 → rows ≤ 2048 → values ≤ 32 → n ≡ count
-      → (b ≡ true → (all_below (listed values rows at to) n ≡ true) × (all_below
-      (once_in at) n ≡ true)) → b ≡ true → true ≡ entries_fit at to count rows values
-  plain-list count n b h l m e f t =
-      let p = ap (all_below (listed values rows at to)) (sym e) ∙ (f t).0 in
-      let q = ap (all_below (once_in at)) (sym e) ∙ (f t).1 in
+  pub plain-list : (count : ℕ) (b : Bool) → count ≤ 32 → rows ≤ 2048 → values ≤ 32
+      → (b ≡ true → (all_below (listed values rows at to) count ≡ true) × (all_below
+      (once_in at) count ≡ true)) → b ≡ true → true ≡ entries_fit at to count rows values
+  plain-list count b h l m f t =
+      let p = (f t).0 in
+      let q = (f t).1 in
       sym (entries-made at to count rows values (search))

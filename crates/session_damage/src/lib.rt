@@ -9,19 +9,22 @@ ghost use Rattle.tables.specs.Damage.{all_zero, entry_fits};
 ghost use Rattle.session_damage.specs.Parts.{zero_at, listed, once_in, RowsLow, entries_fit, start_fits};
 ghost use Rattle.session_damage.specs.Judged.{session_judged};
 
-use tables::{Clock, NEW, Row, Session, Stamp, Value};
+use tables::{
+    Clock, LOG_CELLS, MAX_ENTRIES, MAX_RECORDS, MAX_ROWS, MAX_VALUES, NEW, Row, Session, Stamp,
+    Value,
+};
 
 // Whether all entries of a list are 0.
-fn list_zero<'a>(at: &'a [u16; 32], to: &'a [u8; 32]) -> bool
+fn list_zero(at: &[u16; 32], to: &[u8; 32]) -> bool
     ensures { result ≡ all_below (zero_at at.now to.now) 32 }
 {
     let mut rows: u16 = 0;
+    for row in at {
+        rows |= *row;
+    }
     let mut targets: u8 = 0;
-    let mut i: usize = 0;
-    while i < 32 {
-        rows = rows | at[i];
-        targets = targets | to[i];
-        i += 1;
+    for target in to {
+        targets |= *target;
     }
     (rows == 0) & (targets == 0)
 }
@@ -35,6 +38,7 @@ fn session_zero(s: Session) -> bool
 }
 
 // Whether an entry is a row below `rows` with a target, or an insert.
+#[tactic(auto, unfolding(tables::specs::Damage::entry_fits))]
 fn entry_fits(at: u16, to: u8, rows: u16, values: u8) -> bool
     ensures { result ≡ entry_fits values rows at to }
 {
@@ -43,17 +47,15 @@ fn entry_fits(at: u16, to: u8, rows: u16, values: u8) -> bool
 }
 
 // Whether each of the first n entries is.
-fn list_fits<'a>(at: &'a [u16; 32], to: &'a [u8; 32], n: usize, rows: Row, values: Value) -> bool
+fn list_fits(at: &[u16; 32], to: &[u8; 32], n: usize, rows: Row, values: Value) -> bool
     requires { (n ≤ 32) × (rows.0 ≤ 2048) × (values.0 ≤ 32) }
     ensures { result ≡ all_below (listed values.0 rows.0 at.now to.now) n }
 {
     let below = rows.0 as u16;
     let c = values.0 as u8;
     let mut ok = true;
-    let mut i: usize = 0;
-    while i < n {
-        ok = ok & entry_fits(at[i], to[i], below, c);
-        i += 1;
+    for i in 0..n {
+        ok &= entry_fits(at[i], to[i], below, c);
     }
     ok
 }
@@ -64,21 +66,20 @@ fn listed_once(at: &[u16; 32], n: usize) -> bool
     ensures { result ≡ all_below (once_in at.now) n }
 {
     let mut seen = [0u64; 32];
-    let mut i: usize = 0;
-    while i < n {
-        if at[i] != NEW {
-            let row = bits::wide_short(at[i]);
+    for at in &at[..n] {
+        if *at != NEW {
+            let row = usize::from(*at);
             if vectors::get_in(&seen, row) {
                 return false;
             }
             vectors::put_in(&mut seen, row, true);
         }
-        i += 1;
     }
     true
 }
 
 // Whether a row's last six bits were seen.
+#[tactic(auto, unfolding(bits::specs::Bit::bit))]
 fn was_seen(seen: u64, row: u32) -> bool
     ensures { result ≡ bit seen (row % 64) }
 {
@@ -93,38 +94,29 @@ fn with_seen(seen: u64, row: u32) -> u64
 }
 
 // Whether each of the first n entries is a row below `rows` with a target below C, and no two rows end in the same six bits.
-fn list_plain<'a>(at: &'a [u16; 32], to: &'a [u8; 32], n: usize, rows: Row, values: Value) -> bool
+fn list_plain(at: &[u16; 32], to: &[u8; 32], n: usize, rows: Row, values: Value) -> bool
     requires { n ≤ 32 }
     ensures { result ≡ true → (all_below (listed values.0 rows.0 at.now to.now) n ≡ true)
         × (all_below (once_in at.now) n ≡ true) }
 {
     let mut seen: u64 = 0;
     let mut ok = true;
-    let mut i: usize = 0;
-    while i < n {
-        let row = bits::long(at[i]);
-        let target = bits::wide_byte(to[i]);
-        ok = ok & (row < rows.0) & (target < values.0) & !was_seen(seen, row);
+    for i in 0..n {
+        let row = u32::from(at[i]);
+        ok &= (row < rows.0) & (u32::from(to[i]) < values.0) & !was_seen(seen, row);
         seen = with_seen(seen, row);
-        i += 1;
     }
     ok
 }
 
 // Whether a list of n entries is sound in a session of `rows` rows.
-fn entries_fit<'a>(at: &'a [u16; 32], to: &'a [u8; 32], n: u32, rows: Row, values: Value) -> bool
+fn entries_fit(at: &[u16; 32], to: &[u8; 32], n: u32, rows: Row, values: Value) -> bool
     ensures { result ≡ entries_fit at.now to.now n rows.0 values.0 }
 {
-    if 32 < n {
+    if MAX_ENTRIES < n || MAX_ROWS < rows.0 || MAX_VALUES < values.0 {
         return false;
     }
-    if 2048 < rows.0 {
-        return false;
-    }
-    if 32 < values.0 {
-        return false;
-    }
-    let count = bits::wide(n);
+    let count = n as usize;
     if list_plain(at, to, count, rows, values) {
         return true;
     }
@@ -138,20 +130,14 @@ fn entries_fit<'a>(at: &'a [u16; 32], to: &'a [u8; 32], n: u32, rows: Row, value
 }
 
 // Whether a start is at most the stamp, and `rows` the row count of that moment.
+#[tactic(auto, unfolding(crate::specs::Parts::start_fits))]
 fn start_fits(start: Stamp, rows: Row, log: &[u32], c: Clock) -> bool
     ensures { result ≡ start_fits start.0 rows.0 log.now c }
 {
-    let last = c.stamp;
-    if last.0 < start.0 {
-        return false;
-    }
-    if 512 < start.0 {
-        return false;
-    }
-    if log.len() < 2048 {
-        return false;
-    }
-    rows.0 == tables::rows_at(log, c.first, start).0
+    start.0 <= c.stamp.0
+        && start.0 <= MAX_RECORDS
+        && LOG_CELLS <= log.len()
+        && rows.0 == tables::rows_at(log, c.first, start).0
 }
 
 // Whether a session is free and all 0, or open and sound.
@@ -161,8 +147,5 @@ pub fn session_fits(s: Session, log: &[u32], c: Clock) -> bool
     if s.live != 1 {
         return session_zero(s);
     }
-    if !start_fits(s.start, s.rows, log, c) {
-        return false;
-    }
-    entries_fit(&s.at, &s.to, s.count, s.rows, c.values)
+    start_fits(s.start, s.rows, log, c) && entries_fit(&s.at, &s.to, s.count, s.rows, c.values)
 }

@@ -10,8 +10,8 @@ each_rows_fit-requires c = (search low-records, omega arith, omega arith, search
 pub gathered-requires : goal.gathered-requires
 gathered-requires c = search low-sets
 
-pub returns-then-not-all_below : goal.returns-then-not-all_below
-returns-then-not-all_below c = search bad-sets
+pub returns-else-all_below : goal.returns-else-all_below
+returns-else-all_below c = search bad-sets
 
-pub returns : goal.returns
-returns c = search each_rows
+pub returns-then-all_below : goal.returns-then-all_below
+returns-then-all_below c = search each_rows

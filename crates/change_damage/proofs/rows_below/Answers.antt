@@ -3,8 +3,8 @@ use Rattle.change_damage.proofs.ChangeLaws.{early-start}
 use Rattle.change_damage.proofs.GatherLaws.{rows-gathered}
 use Rattle.change_damage.proofs.rows_below.Goals as goal
 
-pub returns-then-rows-eq2048 : goal.returns-then-rows-eq2048
-returns-then-rows-eq2048 c = search rows-gathered
+pub returns-then-rows-eq-MAX_ROWS : goal.returns-then-rows-eq-MAX_ROWS
+returns-then-rows-eq-MAX_ROWS c = search rows-gathered
 
 pub returns : goal.returns
 returns c = search early-start

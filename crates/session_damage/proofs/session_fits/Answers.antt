@@ -5,8 +5,8 @@ use Rattle.session_damage.proofs.session_fits.Goals as goal
 pub returns-then-s-ne1 : goal.returns-then-s-ne1
 returns-then-s-ne1 c = search free-judged
 
-pub returns-then-not-start_fits : goal.returns-then-not-start_fits
-returns-then-not-start_fits c = search bad-start
+pub returns-else-start_fits : goal.returns-else-start_fits
+returns-else-start_fits c = search bad-start
 
-pub returns : goal.returns
-returns c = search entries-decide
+pub returns-then-start_fits : goal.returns-then-start_fits
+returns-then-start_fits c = search entries-decide

@@ -1,5 +1,5 @@
 -- `later_slots_fit` meets its contract: a scan; the whole is the rest from here on.
-use Rattle.tables.proofs.Fold.{scan-begin, scan-again, scan-fails, scan-end}
+use Rattle.tables.proofs.Fold.{scan-again, scan-fails, scan-end}
 use Rattle.damage.proofs.SlotLaws.{later-slot}
 use Rattle.damage.proofs.slots.later_slots_fit.Goals as goal
 
@@ -8,9 +8,6 @@ returns-then-not-fits-link_fits c = search (scan-fails, later-slot)
 
 pub loop-i-preserved : goal.loop-i-preserved
 loop-i-preserved c = search (scan-again, later-slot)
-
-pub loop-i-init : goal.loop-i-init
-loop-i-init c = search scan-begin
 
 pub returns : goal.returns
 returns c = search scan-end

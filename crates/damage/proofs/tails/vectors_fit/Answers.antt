@@ -13,11 +13,11 @@ tails_clear-requires-2 c = search (room_for, low-first-slots)
 pub each_vector_fits-requires : goal.each_vector_fits-requires
 each_vector_fits-requires c = (search low-slots, omega arith, omega arith, omega arith, search stamps-low)
 
-pub returns-then-c-first : goal.returns-then-c-first
-returns-then-c-first c = search one-count
+pub returns-then-c : goal.returns-then-c
+returns-then-c c = search one-count
 
-pub returns-then-not-tails_clear : goal.returns-then-not-tails_clear
-returns-then-not-tails_clear c = search first-fails
+pub returns-else-tails_clear : goal.returns-else-tails_clear
+returns-else-tails_clear c = search first-fails
 
-pub returns : goal.returns
-returns c = search rest-decides
+pub returns-then-tails_clear : goal.returns-then-tails_clear
+returns-then-tails_clear c = search rest-decides
