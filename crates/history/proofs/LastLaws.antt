@@ -12,7 +12,7 @@ use borrow.Author.Tests.{eq-eqb, ne_eqb, lt-ltb, le-ltb, ltb-true}
 use Rattle.std.specs.Prelude.{Some, None}
 use lib.Dec.{eqb, ltb}
 use lib.ListN.{replicate, length, take, drop, get_or}
-use Rattle.std.proofs.lemmas.List.{get_or-take, get_or-drop, length-take, length-drop}
+use Rattle.std.proofs.lemmas.List.{get_or-take, get_or-drop, length-take}
 use Rattle.bits.proofs.Cases.{lt-cases}
 use Rattle.bits.specs.Choice.{or_else}
 use Rattle.bits.specs.Bit.{bit}
@@ -53,7 +53,7 @@ module _ (changes : List ℕ) (row : ℕ) where
   names-join : (a b c : ℕ) → a ≤ b → b ≤ c → in_cut a c ≡ in_cut a b || in_cut b c
   names-join a b c h l = rw (← (stretch-join (change_at changes) a b c h l)) (names-append (cut a b) (cut b c) row)
 
-  -- what a fold over a block of 64 changes meets: one more, all
+  -- what a fold over a block of 64 changes meets
   abbrev block : ℕ → List ℕ
   block a = take (a + 64 - a) (drop a changes)
 
@@ -64,12 +64,6 @@ module _ (changes : List ℕ) (row : ℕ) where
       get_or-take (a + 64 - a) (drop a changes) i 0 (omega (arith, length-take (a + 64 - a) (drop a changes))) ∙ get_or-drop a changes i 0 in
       let y : a + (i + 1) ≡ a + i + 1 = omega arith in
       rw (z, y, e, names_more a (a + i) (omega arith))
-
-  pub block-all : (a i : ℕ) (f : Bool) → a + 64 ≤ length changes → length (block a) ≤ i → i ≤ length (block a) → f ≡ in_cut a (a + i)
-      → f ≡ in_cut a (a + 64)
-  block-all a i f l h k e =
-      let z : i ≡ 64 = omega (arith, length-take (a + 64 - a) (drop a changes), length-drop a changes) in
-      e ∙ ap (λ (n : ℕ). in_cut a (a + n)) z
 
   -- what the search for a change that names the row meets
   module _ (from to p : ℕ) (e : false ≡ in_cut from p) (h : from ≤ p) where
@@ -224,9 +218,6 @@ module _ (changes : List ℕ) (from to v : ℕ) where
   pub mask-none : (n : ℕ) → replicate n 0 ≡ vec (flipped_in changes from from v) n
   mask-none n =
       zeros-vec n ∙ vec-ext (λ r. false) (flipped_in changes from from v) n (λ r l. sym (flipped-none changes v r from from (omega arith)))
-
-  pub mark-row : (p : ℕ) → RowsLow changes from to → from ≤ p → p < to → change_row changes p < 2048
-  mark-row p f h l = f.rows-low p h l
 
   pub mask-more : (p : ℕ) (m m' : List ℕ) → RowsLow changes from to → from ≤ p → p < to
       → m ≡ vec (flipped_in changes from p v) 32 → m' ≡ marked m changes p v → m' ≡ vec (flipped_in changes from (p + 1) v) 32
