@@ -17,10 +17,8 @@ fn row_named(changes: &[u32], from: usize, to: usize, row: u32) -> bool
     ensures { result ≡ names (stretch (change_at changes.now) from to) row }
 {
     let mut any = false;
-    let mut p = from;
-    while p < to {
+    for p in from..to {
         any = any | (changes[p] == row);
-        p += 1;
     }
     any
 }
@@ -34,7 +32,7 @@ fn entry_named(changes: &[u32], from: usize, to: usize, s: Session, i: usize) ->
     if at == tables::NEW {
         return false;
     }
-    row_named(changes, from, to, bits::long(at))
+    row_named(changes, from, to, u32::from(at))
 }
 
 // Whether one of the first n entries has a row that one of the changes from `from` to `to` names.
@@ -42,12 +40,10 @@ fn entries_named(changes: &[u32], from: usize, to: usize, s: Session, n: usize) 
     requires { (n ≤ 32) × (to ≤ 2048) × (4096 ≤ length changes.now) }
     ensures { result ≡ some_of (hits (stretch (change_at changes.now) from to)) (stretch (entry_at s) 0 n) }
 {
-    let mut i: usize = 0;
-    while i < n {
+    for i in 0..n {
         if entry_named(changes, from, to, s, i) {
             return true;
         }
-        i += 1;
     }
     false
 }
@@ -59,7 +55,7 @@ fn any_named(log: &[u32], changes: &[u32], s: Session, last: Stamp) -> bool
 {
     let from = tables::end_at(log, s.start);
     let to = tables::end_at(log, last);
-    entries_named(changes, from, to, s, bits::wide(s.count))
+    entries_named(changes, from, to, s, s.count as usize)
 }
 
 // Whether a record after the start names a listed row: one straight pass, which says no at once, and then the search, which stops at the
@@ -71,23 +67,16 @@ pub fn clash(log: &[u32], changes: &[u32], s: Session, last: Stamp) -> bool
     if !any_named(log, changes, s, last) {
         return false;
     }
-    let start = s.start;
-    let n = bits::wide(s.count);
-    let stamp = last.0;
     let mut found = false;
-    let mut k = start.0;
-    'records: while k < stamp {
+    'records: for k in s.start.0..last.0 {
         let from = tables::end_at(log, Stamp(k));
         let to = tables::end_at(log, Stamp(k + 1));
-        let mut i: usize = 0;
-        while i < n {
+        for i in 0..s.count as usize {
             if entry_named(changes, from, to, s, i) {
                 found = true;
                 break 'records;
             }
-            i += 1;
         }
-        k += 1;
     }
     found
 }

@@ -11,7 +11,8 @@ use native.Mathlib.Numerals.{add-one}
 use borrow.Author.Tests.{eq-eqb, ne_eqb, lt-ltb, le-ltb, ltb-true}
 use Rattle.std.specs.Prelude.{Some, None}
 use lib.Dec.{eqb, ltb}
-use lib.ListN.{replicate}
+use lib.ListN.{replicate, length, take, drop, get_or}
+use Rattle.std.proofs.lemmas.List.{get_or-take, get_or-drop, length-take}
 use Rattle.bits.proofs.Cases.{lt-cases}
 use Rattle.bits.specs.Choice.{or_else}
 use Rattle.bits.specs.Bit.{bit}
@@ -41,11 +42,8 @@ module _ (changes : List ℕ) (row : ℕ) where
 
   -- ---- whether a stretch names the row
 
-  names-none : (a b : ℕ) → b ≤ a → false ≡ in_cut a b
+  pub names-none : (a b : ℕ) → b ≤ a → false ≡ in_cut a b
   names-none a b h = rw (stretch-none (change_at changes) a b h)
-
-  pub names-start : (a : ℕ) → false ≡ in_cut a a
-  names-start a = names-none a a (omega arith)
 
   pub names_more : (a b : ℕ) → a ≤ b → in_cut a (b + 1) ≡ in_cut a b || eqb (change_row changes b) row
   names_more a b h =
@@ -55,12 +53,17 @@ module _ (changes : List ℕ) (row : ℕ) where
   names-join : (a b c : ℕ) → a ≤ b → b ≤ c → in_cut a c ≡ in_cut a b || in_cut b c
   names-join a b c h l = rw (← (stretch-join (change_at changes) a b c h l)) (names-append (cut a b) (cut b c) row)
 
-  -- what a fold over a stretch meets
-  pub names-fold : (a b : ℕ) (f : Bool) → a ≤ b → f ≡ in_cut a b → f || eqb (change_row changes b) row ≡ in_cut a (b + 1)
-  names-fold a b f h e = rw (e, names_more a b h)
+  -- what a fold over a block of 64 changes meets
+  abbrev block : ℕ → List ℕ
+  block a = take (a + 64 - a) (drop a changes)
 
-  pub names-all : (a b e : ℕ) (f : Bool) → f ≡ in_cut a b → b ≤ e → e ≤ b → f ≡ in_cut a e
-  names-all a b e f q h l = let z : b ≡ e = omega arith in q ∙ ap (in_cut a) z
+  pub block-fold : (a i : ℕ) (f : Bool) → i < length (block a) → f ≡ in_cut a (a + i)
+      → f || eqb (get_or (block a) i 0) row ≡ in_cut a (a + (i + 1))
+  block-fold a i f h e =
+      let z : get_or (block a) i 0 ≡ change_row changes (a + i) =
+      get_or-take (a + 64 - a) (drop a changes) i 0 (omega (arith, length-take (a + 64 - a) (drop a changes))) ∙ get_or-drop a changes i 0 in
+      let y : a + (i + 1) ≡ a + i + 1 = omega arith in
+      rw (z, y, e, names_more a (a + i) (omega arith))
 
   -- what the search for a change that names the row meets
   module _ (from to p : ℕ) (e : false ≡ in_cut from p) (h : from ≤ p) where
@@ -215,9 +218,6 @@ module _ (changes : List ℕ) (from to v : ℕ) where
   pub mask-none : (n : ℕ) → replicate n 0 ≡ vec (flipped_in changes from from v) n
   mask-none n =
       zeros-vec n ∙ vec-ext (λ r. false) (flipped_in changes from from v) n (λ r l. sym (flipped-none changes v r from from (omega arith)))
-
-  pub mark-row : (p : ℕ) → RowsLow changes from to → from ≤ p → p < to → change_row changes p < 2048
-  mark-row p f h l = f.rows-low p h l
 
   pub mask-more : (p : ℕ) (m m' : List ℕ) → RowsLow changes from to → from ≤ p → p < to
       → m ≡ vec (flipped_in changes from p v) 32 → m' ≡ marked m changes p v → m' ≡ vec (flipped_in changes from (p + 1) v) 32

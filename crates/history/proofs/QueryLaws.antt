@@ -21,7 +21,7 @@ use Rattle.tables.proofs.Slots.{length-slot_words, words-slot_words}
 use Rattle.history.specs.declared.chain.Base.{Base}
 use Rattle.history.specs.declared.query.Found.{Found}
 use Rattle.history.specs.Version.{base_seen}
-use Rattle.history.specs.Flips.{flipped_in, RowsLow}
+use Rattle.history.specs.Flips.{flipped_in}
 use Rattle.history.specs.Query.{front_filled, queried_since, count_since, scratch_since, found_at, scratch_at}
 
 -- ---- the words of a slot
@@ -51,11 +51,6 @@ module _ (words : List ℕ) (slot : ℕ) where
 
 abbrev answer : ℕ → ℕ → Found
 answer slot flips = record { slot = slot; flips = flips }
-
--- the rows of all changes up to a place are low: so are those of a stretch up to it
-pub flips-rows : (log changes : List ℕ) (s from to : ℕ) → RowsLow changes 0 (end_at log s) → to ≡ end_at log s → RowsLow changes from to
-flips-rows log changes s from to f e =
-    record { changes-room = f.changes-room; end_low = rw e f.end_low; rows-low = λ p h l. f.rows-low p (omega arith) (omega arith) }
 
 module _ (slots words heads log changes scratch : List ℕ) (s v : ℕ) where
   module _ (base : Base) (to n : ℕ) (mask : List ℕ) (b : base ≡ base_seen slots heads log s v) (t : to ≡ end_at log s)

@@ -19,11 +19,11 @@ use Rattle.rules.specs.Log.{or_empty}
 use Rattle.tables.specs.Cells.{slot_words, end_at}
 use Rattle.history.specs.declared.chain.Base.{Base}
 use Rattle.history.specs.declared.changes.Last.{Last}
-use Rattle.history.specs.Version.{base_seen, Based}
+use Rattle.history.specs.Version.{base_seen}
 use Rattle.history.specs.Last.{place_of, set_of, last_set, last_of}
 use Rattle.history.specs.Flips.{flipped_in}
 use Rattle.history.specs.Query.{queried_since, queried_at}
-use Rattle.history.specs.Read.{read_cells, last_flips, has_after, read_after, Readable}
+use Rattle.history.specs.Read.{read_cells, last_flips, has_after, read_after}
 use Rattle.history.proofs.LastLaws.{last-since}
 
 -- ---- one value
@@ -57,12 +57,9 @@ unfolding has_after
 has-is slots words heads log s row v last base on off b p q =
     differs on off ∙ ap₂ xorb p q ∙ ap (λ (x : Base). xorb (bit_at (slot_words words x.slot) row) (last_flips last x.from v)) b
 
--- ---- the loop over the values: none yet, this one, the next, all
+-- ---- the loop over the values: none yet, this one, the next
 
 module _ (slots words heads log : List ℕ) (values s row : ℕ) (last : kit.Option Last) where
-  pub value-based : (v : ℕ) → Readable slots words heads log values s → v < values → Based slots heads log s v
-  value-based v f l = f.each-based v l
-
   pub read-start : read_after slots words heads log 0 s row last ≡ none
   unfolding read_after
   read-start = smallest-zero (λ w. has_after (base_seen slots heads log s w) words row last w)
@@ -77,11 +74,6 @@ module _ (slots words heads log : List ℕ) (values s row : ℕ) (last : kit.Opt
         → read_after slots words heads log (v + 1) s row last ≡ none
     unfolding read_after
     read_past t h q = smallest-past (λ w. has_after (base_seen slots heads log s w) words row last w) v e (sym h ∙ q)
-
-    pub read_none : values ≤ v → v ≤ values → none ≡ read_after slots words heads log values s row last
-    read_none h l =
-        let z : v ≡ values = omega arith in
-        sym (ap (λ (n : ℕ). read_after slots words heads log n s row last) (sym z) ∙ e)
 
 -- ---- the last change of the row decides as the changes after each version do
 

@@ -14,39 +14,16 @@ use Rattle.bits.proofs.VecOps.{merge-vec, merge-more, merge_none}
 use Rattle.bits.specs.Words.{bit_at, Words, merged_words}
 use Rattle.tables.specs.Cells.{slot_words, end_at}
 use Rattle.history.specs.declared.chain.Base.{Base}
-use Rattle.history.specs.Version.{base_seen, Based}
+use Rattle.history.specs.Version.{base_seen}
 use Rattle.history.specs.Flips.{flipped_in}
 use Rattle.history.specs.Query.{queried_since, queried_at}
-use Rattle.history.specs.Span.{spanned_at, SpanReady}
+use Rattle.history.specs.Span.{spanned_at}
 
 -- what is the vector of a function has its length
 pub vec-long : (f : ℕ → Bool) (ws : List ℕ) → ws ≡ vec f 32 → length ws ≡ 32
 vec-long f ws e = ap length e ∙ length-vec f 32
 
 module _ (slots words heads log changes : List ℕ) (s : ℕ) where
-  -- ---- what a span up to b needs: its last value, and every value up to it
-
-  module _ (b : ℕ) (f : SpanReady slots words heads log changes s b) where
-    pub value-based : Based slots heads log s b
-    value-based = f.each-based b (omega arith)
-
-    pub value_low : b < 32
-    value_low = value-based.headed.value_low
-
-    pub log-long : 2048 ≤ length log
-    log-long = value-based.log-room
-
-    pub value-ready : (v : ℕ) → v ≤ b → SpanReady slots words heads log changes s v
-    value-ready v l = record {
-      each-based = λ u h. f.each-based u (omega arith);
-      words-room = f.words-room;
-      stamp-low = f.stamp-low;
-      rows = f.rows;
-    }
-
-    pub value-next : (v : ℕ) → v ≤ b → v + 1 < 4294967296
-    value-next v l = omega (arith, value_low)
-
   -- ---- what `add_value` knows at its end
 
   pub value-merged : (v : ℕ) (base : Base) (to : ℕ) (ws mask all d : List ℕ) → Words all → length all ≡ 32 → Words ws

@@ -16,7 +16,7 @@ use Rattle.tables.specs.Meaning as cells
 use Rattle.tables.specs.Meaning.{chain_from, chain_at}
 use Rattle.tables.proofs.Slots.{link-falls, link-used, unlinked-old}
 use Rattle.history.specs.declared.chain.Base.{Base}
-use Rattle.history.specs.Version.{version_step, version_from, version_slot, slot_seen, base_seen, Headed, Based}
+use Rattle.history.specs.Version.{version_step, version_from, version_slot, slot_seen, base_seen, Headed}
 
 -- ---- one step at a time
 
@@ -141,9 +141,6 @@ module _ (slots heads : List ℕ) (s v : ℕ) where
   seen_low h r f e q = omega (arith, version-le slots s h, f.head-low)
 
   module _ (log : List ℕ) (i b : ℕ) (e : i ≡ slot_seen slots heads s v) (q : b ≡ slot_stamp slots i) where
-    pub stamp-low : Based slots heads log s v → b ≤ 512
-    stamp-low f = rw (q, e) f.base-low
-
     pub base-is : (from : ℕ) → from ≡ end_at log b → ◌≡◌ {A = Base} (record { slot = i; from = from }) (base_seen slots heads log s v)
     unfolding base_seen
     base-is from p = rw (p, q, e)

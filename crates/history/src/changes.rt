@@ -30,17 +30,14 @@ fn block_names(changes: &[u32], from: usize, row: u32) -> bool
     requires { from + 64 ≤ length changes.now }
     ensures { result ≡ names (stretch (change_at changes.now) from (from + 64)) row }
 {
-    let e = from + 64;
     let mut found = false;
-    let mut p = from;
-    while p < e {
-        found = found | (changes[p] == row);
-        p += 1;
+    for c in &changes[from..from + 64] {
+        found = found | (*c == row);
     }
     found
 }
 
-// The changes up to `to` without the last blocks of 64 that do not name the row: where they end.
+// The changes up to `to` without the last blocks of 64 that do not name the row: where they end. The step is a block, no count.
 fn blocks_before(changes: &[u32], to: usize, row: u32) -> usize
     requires { to ≤ length changes.now }
     ensures { (result ≤ to) × (last_place changes.now row to ≡ last_place changes.now row result) }
@@ -86,12 +83,10 @@ pub fn named(changes: &[u32], from: usize, to: usize, row: Row) -> bool
     requires { (to ≤ 2048) × (4096 ≤ length changes.now) }
     ensures { result ≡ names (stretch (change_at changes.now) from to) row.0 }
 {
-    let mut p = from;
-    while p < to {
+    for p in from..to {
         if changes[p] == row.0 {
             return true;
         }
-        p += 1;
     }
     false
 }

@@ -13,7 +13,7 @@ fn mark(mask: &mut [u64; 32], changes: &[u32], p: usize, v: Value)
 {
     let row = tables::change_row(changes, p);
     let on = bits::has(tables::change_set(changes, p), v.0);
-    vectors::put_in(mask, bits::wide(row.0), on);
+    vectors::put_in(mask, row.0 as usize, on);
 }
 
 // The rows whose last change from `from` to `to` has v: one pass forward, for every row is asked for, and the last change of each stands.
@@ -22,10 +22,8 @@ pub fn flips(changes: &[u32], from: usize, to: usize, v: Value) -> [u64; 32]
     ensures { result ≡ vec (flipped_in changes.now from to v.0) 32 }
 {
     let mut mask = [0u64; 32];
-    let mut p = from;
-    while p < to {
+    for p in from..to {
         mark(&mut mask, changes, p, v);
-        p += 1;
     }
     mask
 }

@@ -1,6 +1,5 @@
 -- `conflict::clash` meets its contract: the whole is what the records, and the entries of this one, from here on say.
 use mathlib.Core.Path.{refl}
-use native.Mathlib.Omega.{arith}
 use borrow.Author.Rules.{rules}
 use Rattle.conflict.proofs.ClashLaws.{none-clash, some-on, entries-start, records-start}
 use Rattle.conflict.proofs.ClashLaws.{records-ended, records-on, records-met, next_low}
@@ -13,13 +12,13 @@ pub records-init : goal.records-init
 records-init c = (refl, search records-start)
 
 pub loop-i-init : goal.loop-i-init
-loop-i-init c = (omega arith, search rules, search entries-start)
+loop-i-init c = (search rules, search entries-start)
 
 pub entry_named-requires : goal.entry_named-requires
 entry_named-requires c = (search rules, search next_low, search rules)
 
 pub loop-i-preserved : goal.loop-i-preserved
-loop-i-preserved c = (omega arith, search rules, search some-on)
+loop-i-preserved c = (search rules, search some-on)
 
 pub records-preserved : goal.records-preserved
 records-preserved c = (search rules, search records-on)

@@ -1,13 +1,10 @@
 -- `history::block_names` meets its contract. The invariant: what the changes so far name.
-use native.Mathlib.Omega.{arith}
-use Rattle.history.proofs.LastLaws.{names-start, names-fold, names-all}
+use borrow.Author.Rules.{rules}
+use Rattle.history.proofs.LastLaws.{names-none, block-fold}
 use Rattle.history.proofs.changes.block_names.Goals as goal
 
-pub loop-p-init : goal.loop-p-init
-loop-p-init c = (omega arith, omega arith, search names-start)
+pub loop-c-init : goal.loop-c-init
+loop-c-init c = search (names-none, rules)
 
-pub loop-p-preserved : goal.loop-p-preserved
-loop-p-preserved c = (omega arith, omega arith, search names-fold)
-
-pub returns : goal.returns
-returns c = search names-all
+pub loop-c-preserved : goal.loop-c-preserved
+loop-c-preserved c = search block-fold

@@ -1,17 +1,13 @@
 -- `history::flips` meets its contract. The invariant: the mask is what the changes so far flip.
 use native.Mathlib.Omega.{arith}
-use borrow.Author.Rules.{rules}
-use Rattle.history.proofs.LastLaws.{mask-none, mark-row, mask-more, mask-all}
+use Rattle.history.proofs.LastLaws.{mask-none, mask-more, mask-all}
 use Rattle.history.proofs.mask.flips.Goals as goal
 
 pub loop-p-init : goal.loop-p-init
-loop-p-init c = (omega arith, omega arith, mask-none _ _ 0 _ 32)
-
-pub mark-requires : goal.mark-requires
-mark-requires c = (search rules, search rules, search rules, search mark-row)
+loop-p-init c = (omega arith, mask-none _ _ 0 _ 32)
 
 pub loop-p-preserved : goal.loop-p-preserved
-loop-p-preserved c = (omega arith, omega arith, search mask-more)
+loop-p-preserved c = (omega arith, search mask-more)
 
 pub returns : goal.returns
 returns c = search mask-all

@@ -6,7 +6,4 @@ use Rattle.history.specs.Flips.{flipped_in}
 use Rattle.history.proofs.mask.flips.Given as goal
 
 abbrev pub invariant-loop-p : goal.invariant-loop-p
-invariant-loop-p l = (l.from ≤ l.p) × (l.p - l.to ≤ l.from - l.to) × (l.mask ≡ vec (flipped_in l.changes l.from l.p l.v.0) 32)
-
-abbrev pub decreases-loop-p : goal.decreases-loop-p
-decreases-loop-p l = l.to - l.p
+invariant-loop-p l = (l.p - l.to ≤ l.initial.p - l.to) × (l.mask ≡ vec (flipped_in l.changes l.initial.p l.p l.v.0) 32)

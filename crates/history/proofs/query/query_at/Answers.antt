@@ -1,10 +1,6 @@
 -- `history::query_at` meets its contract.
-use Rattle.history.proofs.QueryLaws.{flips-rows, count_low, own-found, own-scratch, turned-found, turned-scratch}
-use borrow.Author.Rules.{rules}
+use Rattle.history.proofs.QueryLaws.{count_low, own-found, own-scratch, turned-found, turned-scratch}
 use Rattle.history.proofs.query.query_at.Goals as goal
-
-pub flips-mask-requires : goal.flips-mask-requires
-flips-mask-requires c = (search rules, search flips-rows)
 
 pub returns-then-n-eq0 : goal.returns-then-n-eq0
 returns-then-n-eq0 c = (search own-found, search own-scratch)

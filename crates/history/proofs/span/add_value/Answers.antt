@@ -1,18 +1,9 @@
 -- `history::add_value` meets its contract.
 use mathlib.Core.Path.{sym, ◌∙◌}
-use Rattle.history.proofs.QueryLaws.{flips-rows, slot-length}
-use Rattle.history.proofs.SpanLaws.{value-based, value_low, log-long, vec-long, value-merged}
+use Rattle.history.proofs.QueryLaws.{slot-length}
+use Rattle.history.proofs.SpanLaws.{vec-long, value-merged}
 use borrow.Author.Rules.{rules}
 use Rattle.history.proofs.span.add_value.Goals as goal
-
-pub base_of-base-requires : goal.base_of-base-requires
-base_of-base-requires c = search value-based
-
-pub end_at-requires : goal.end_at-requires
-end_at-requires c = (search rules, search log-long)
-
-pub flips-mask-requires : goal.flips-mask-requires
-flips-mask-requires c = (search value_low, search flips-rows)
 
 pub merge-requires : goal.merge-requires
 merge-requires c = let long = sym c.requires.0 in
