@@ -1,18 +1,19 @@
 -- Create: the column's test, the cells, the vectors and the clock of a new index, and what the call comes to.
+use Rattle.std.specs.Prelude.{Ok, Err}
 use mathlib.Core.Path.{◌≡◌, refl, sym, ap, ap₂, ◌∙◌}
 use mathlib.Core.Bool.{Bool, true, false, not, cond, ◌&&◌, ◌||◌}
 use mathlib.Core.Option.{none, some}
 use mathlib.Core.List.{List, [], ◌∷◌, ◌++◌}
 use mathlib.Core.Logic.{◌⊎◌, inl, inr}
-use Prim.Native.Nat.{ℕ, ◌+◌, ◌≤◌, ◌<◌, zero-le}
+use Prim.Native.Nat.{ℕ, ◌+◌, ◌≤◌, ◌<◌}
 use native.Mathlib.Omega.{arith}
-use borrow.Author.Tests.{eq-eqb, ne_eqb, le-leb, lt-leb, lt-ltb, le-ltb, ltb-false, not-true, not-false}
+use borrow.Author.Tests.{eq-eqb, ne_eqb, le-leb, lt-leb, lt-ltb, le-ltb, ltb-false}
 use lib.Dec.{eqb, leb, ltb}
-use lib.ListN.{length, get_or, take, drop, set, replicate, length-map, length-replicate, get_or-replicate}
-use lib.Seq.{sets-eq, length-take-le, take_all, ext_get_or}
+use lib.ListN.{length, get_or, take, drop, set, replicate, length-map, length-replicate}
+use lib.Seq.{sets-eq, length-take-le, take_all}
 use Rattle.bits.proofs.Cases.{lt-cases, eq-cases}
 use Rattle.bits.specs.Tab.{tab, over}
-use Rattle.bits.proofs.TabLaws.{length-tab, get_or-tab, Filled, filled_more}
+use Rattle.bits.proofs.TabLaws.{Filled, filled_more}
 use Rattle.bits.specs.Vec.{vec}
 use Rattle.bits.proofs.VecLaws.{length-vec, bit_at-vec, vec-ext}
 use Rattle.bits.specs.Words.{bit_at}
@@ -23,22 +24,18 @@ use Rattle.rules.proofs.Small.{or_parts}
 use Rattle.rules.proofs.Shapes.{some_of, some-passed}
 use Rattle.tables.specs.declared.session.Session.{Session}
 use Rattle.tables.specs.declared.counts.Value.{Value}
-use Rattle.tables.specs.declared.refusal.Refusal.{Refusal}
 use Rattle.tables.specs.declared.refusal.Refusal.TheVariants.{NoRoom, BadColumn}
 use Rattle.tables.specs.Cells.{Tables, tables}
 use Rattle.tables.specs.Stores.{put_clock}
-use Rattle.tables.specs.Refusals.{number_of}
 use Rattle.tables.specs.Room.{room_for}
 use Rattle.tables.proofs.Facts.{room-is, room-lengths}
-use Rattle.lent.specs.Places.{all_freed}
 use Rattle.outcomes.specs.declared.answers.Answer.{Answer}
 use Rattle.outcomes.specs.declared.answers.Answer.TheVariants.{Count}
-use Rattle.outcomes.specs.declared.answers.Freed.{Freed}
-use Rattle.outcomes.specs.Said.{said, numbers, no}
+use Rattle.outcomes.specs.Said.{numbers_of, numbers}
 use Rattle.outcomes.specs.Outcome.{outcome, refusal_of_create, unless}
 use Rattle.outcomes.specs.Calls.{below, column_of, created_tables, create_of}
 use Rattle.creating.specs.Create.{Creatable, Created}
-use Rattle.outcomes.specs.Seats.{frees, frees_none, freeing_all, Creates}
+use Rattle.outcomes.specs.Seats.{Creates}
 use Rattle.outcomes.specs.Narrow.{narrowed}
 use Rattle.outcomes.proofs.NarrowLaws.{narrow-cases}
 
@@ -144,24 +141,19 @@ narrowed_low C l = go (narrow-cases C)
 
 -- the first cells get their own numbers, the others become 0
 module _ (c : ℕ) (d₀ d : List ℕ) (i : ℕ) (f : Filled (below c) d₀ d i) where
-  pub number_more : (C n v : ℕ) → c ≡ C → C ≤ n → n ≤ length d₀ → i < c → v ≡ i → Filled (below c) d₀ (set d i v) (i + 1)
-  number_more C n v q m room h e =
-      filled_more (below c) f (omega (arith, f.same)) (e ∙ ap (λ (t : Bool). cond t i 0) (sym (lt-ltb i c h)))
+  pub number_more : (v : ℕ) → i < length d₀ → v ≡ i → i < c → Filled (below c) d₀ (set d i v) (i + 1)
+  number_more v room e h = filled_more (below c) f (omega (arith, f.same)) (e ∙ ap (λ (t : Bool). cond t i 0) (sym (lt-ltb i c h)))
 
-  pub zero_more : (n : ℕ) → n ≤ length d₀ → c ≤ i → i < n → Filled (below c) d₀ (set d i 0) (i + 1)
-  zero_more n room h l = filled_more (below c) f (omega (arith, f.same)) (ap (λ (t : Bool). cond t i 0) (sym (le-ltb i c h)))
+  pub zero_more : (v : ℕ) → i < length d₀ → v ≡ 0 → c ≤ i → Filled (below c) d₀ (set d i v) (i + 1)
+  zero_more v room e h = filled_more (below c) f (omega (arith, f.same)) (e ∙ ap (λ (t : Bool). cond t i 0) (sym (le-ltb i c h)))
 
-  pub numbered-to : (C n : ℕ) → c ≡ C → i ≤ n → n ≤ i → d ≡ over (tab (below C) n) d₀
-  numbered-to C n q h l = let e : i ≡ n = omega arith in f.sofar ∙ ap₂ (λ (x k : ℕ). over (tab (below x) k) d₀) q e
+  pub numbered-to : (n : ℕ) → i ≤ n → n ≤ i → d ≡ over (tab (below c) n) d₀
+  numbered-to n h l = let e : i ≡ n = omega arith in f.sofar ∙ ap (λ (k : ℕ). over (tab (below c) k) d₀) e
 
--- no number is zeros
-pub zeros-made : (n : ℕ) (d₀ d : List ℕ) → d ≡ over (tab (below 0) n) d₀ → d ≡ over (replicate n 0) d₀
-zeros-made n d₀ d e =
-    e
-    ∙ ap (λ (z : List ℕ). over z d₀)
-    (ext_get_or 0 (tab (below 0) n) (replicate n 0) (length-tab (below 0) n ∙ sym (length-replicate n 0))
-    (λ i h. let l : i < n = omega (arith, length-tab (below 0) n) in
-    get_or-tab (below 0) n i 0 l ∙ ap (λ (t : Bool). cond t i 0) (le-ltb i 0 zero-le) ∙ sym (get_or-replicate n i 0 0 l)))
+-- the first n cells filled with 0
+pub zeros-made : (n : ℕ) (d : List ℕ) → n ≤ length d → replicate (length (take n d)) 0 ++ drop n d ≡ over (replicate n 0) d
+zeros-made n d h =
+    ap₂ (λ (x k : ℕ). replicate x 0 ++ drop k d) (length-take-le n d h) (sym (length-replicate n 0))
 
 -- ---- vectors and the clock
 
@@ -222,29 +214,24 @@ module _ (clock slots words heads log changes : List ℕ) where
     abbrev before : List Session → Tables
     before = tables clock slots words heads log changes
 
-    refused-left : (ts : List Session) (d : Freed) (why : Refusal) → d ≡ frees_none why
-        → outcome (before (freeing_all d ts)) [] (said d.answer) ≡ outcome (before ts) [] (no (number_of why))
-    unfolding frees_none all_freed
-    refused-left ts d why k = ap (λ (y : Freed). outcome (before (freeing_all y ts)) [] (said y.answer)) k
-
     -- "1": and nothing changes
-    pub create-no-room : (r : Bool) (d : Freed) → r ≡ room_for clock slots words heads log changes places → not r ≡ true
-        → d ≡ frees_none NoRoom → Creates before before places d (λ t. create_of t c col)
+    pub create-no-room : (r : Bool) → r ≡ room_for clock slots words heads log changes places → r ≡ false
+        → Creates before before places (Err NoRoom) (λ t. create_of t c col)
     unfolding create_of refusal_of_create unless
-    create-no-room r d e h k = λ ts q. refused-left ts d NoRoom k ∙ rw (sym (room-is (before ts) places q), sym e, not-true r h)
+    create-no-room r e h = λ ts q. rw (sym (room-is (before ts) places q), sym e, h)
 
     -- "3": and nothing changes
-    module _ (r : Bool) (e : r ≡ room_for clock slots words heads log changes places) (h : not r ≡ false) (v : Value)
+    module _ (r : Bool) (e : r ≡ room_for clock slots words heads log changes places) (h : r ≡ true) (v : Value)
         (is : v.0 ≡ narrowed c) (b : Bool) (p : b ≡ bad_column v.0 (column_of col)) where
       roomy-is : room_for clock slots words heads log changes places ≡ true
-      roomy-is = sym e ∙ not-false r h
+      roomy-is = sym e ∙ h
 
       judged : bad_column c (column_of col) ≡ b
       judged = sym (p ∙ ap (λ (m : ℕ). bad_column m (column_of col)) is ∙ bad-narrowed c col)
 
-      pub create-refused : (d : Freed) → b ≡ true → d ≡ frees_none BadColumn → Creates before before places d (λ t. create_of t c col)
+      pub create-refused : b ≡ true → Creates before before places (Err BadColumn) (λ t. create_of t c col)
       unfolding create_of refusal_of_create unless tests
-      create-refused d m k = λ ts q. refused-left ts d BadColumn k ∙ rw (sym (room-is (before ts) places q), roomy-is, judged, m)
+      create-refused m = λ ts q. rw (sym (room-is (before ts) places q), roomy-is, judged, m)
 
       module _ (m : b ≡ false) where
         -- what the work needs
@@ -256,11 +243,10 @@ module _ (clock slots words heads log changes : List ℕ) where
         value-is : v.0 ≡ c
         value-is = is ∙ narrowed_low c (omega (arith, is, creatable.few-values))
 
-        pub create-done : (after : List Session → Tables) (a : Answer) (d : Freed) → Created before after v.0 col a → d ≡ frees a
-            → Creates before after places d (λ t. create_of t c col)
-        unfolding create_of refusal_of_create unless tests frees all_freed
-        create-done after a d f k = λ ts q.
-            ap (λ (y : Freed). outcome (after (freeing_all y ts)) [] (said y.answer)) k
-            ∙ ap₂ (λ (u : Tables) (x : Answer). outcome u [] (said x)) (f.made ts) f.answers
+        pub create-done : (after : List Session → Tables) (a : Answer) → Created before after v.0 col a
+            → Creates before after places (Ok a) (λ t. create_of t c col)
+        unfolding create_of refusal_of_create unless tests
+        create-done after a f = λ ts q.
+            ap₂ (λ (u : Tables) (x : Answer). outcome u [] (numbers_of x)) (f.made ts) f.answers
             ∙ ap (λ (w : ℕ). outcome (created_tables (before ts) w col) [] (numbers (length col ∷ []))) value-is
             ∙ rw (sym (room-is (before ts) places q), roomy-is, judged, m)

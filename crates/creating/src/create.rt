@@ -29,10 +29,16 @@ fn column_known(column: &[u8], values: Value) -> bool
 fn column_refused(values: Value, column: &[u8]) -> bool
     ensures { result ≡ bad_column values.0 (column_of column.now) }
 {
-    values.0 == 0
-        || tables::MAX_VALUES < values.0
-        || (tables::MAX_ROWS as usize) < column.len()
-        || !column_known(column, values)
+    if values.0 == 0 {
+        return true;
+    }
+    if tables::MAX_VALUES < values.0 {
+        return true;
+    }
+    if (tables::MAX_ROWS as usize) < column.len() {
+        return true;
+    }
+    !column_known(column, values)
 }
 
 // The first n cells: one for each value becomes its own number, the others 0.
@@ -41,10 +47,9 @@ fn numbered(cells: &mut [u32], n: usize, values: Value)
     ensures { cells.new ≡ over (tab (below values.0) n) cells.old }
 {
     let c = values.0 as usize;
-    for i in 0..c {
-        cells[i] = i as u32;
+    for i in 0..n {
+        cells[i] = if i < c { i as u32 } else { 0 };
     }
-    cells[c..n].fill(0);
 }
 
 // The first n cells become 0.

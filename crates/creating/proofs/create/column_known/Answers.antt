@@ -1,14 +1,12 @@
--- `create::column_known` meets its contract. The invariant: `ok` is the test of the bytes before r. The measure is what is left of
--- the column.
-use borrow.Author.Rules.{rules}
+-- `create::column_known` meets its contract: `ok` is the test of the bytes so far.
 use Rattle.creating.proofs.CreateLaws.{known-none, known_more, known-all}
 use Rattle.creating.proofs.create.column_known.Goals as goal
 
-pub loop-r-init : goal.loop-r-init
-loop-r-init c = (search rules, search known-none)
+pub loop-b-init : goal.loop-b-init
+loop-b-init c = search known-none
 
-pub loop-r-preserved : goal.loop-r-preserved
-loop-r-preserved c = (search rules, search known_more)
+pub loop-b-preserved : goal.loop-b-preserved
+loop-b-preserved c = search known_more
 
 pub returns : goal.returns
 returns c = search known-all
