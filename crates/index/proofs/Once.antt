@@ -1,5 +1,6 @@
 -- No second outcome meets the contract of a call: what an answer says determines it, and each contract is an equality with what
 -- the tables and numbers passed determine.
+use Rattle.std.specs.Prelude.{Result, Ok, Err, Some, None}
 use mathlib.Core.Path.{◌≡◌, refl, sym, ◌∙◌, ap}
 use mathlib.Core.Option.{none, some}
 use mathlib.Core.List.{List, [], ◌∷◌}
@@ -11,9 +12,8 @@ use Rattle.tables.specs.declared.refusal.Refusal.TheVariants.{RowAbsent, ListFul
 use Rattle.tables.specs.declared.refusal.Refusal.TheVariants.{RowsFull, RecordsFull, ChangesFull, SlotsFull, Unreadable, Backward}
 use Rattle.tables.specs.declared.refusal.Refusal.TheVariants.{ShortList}
 use Rattle.tables.specs.Refusals.{number_of}
-use Rattle.history.specs.declared.read.Standing.TheVariants.{Holds, Absent}
 use Rattle.outcomes.specs.declared.answers.Answer.{Answer}
-use Rattle.outcomes.specs.declared.answers.Answer.TheVariants.{No, Count, At, Read, Listed}
+use Rattle.outcomes.specs.declared.answers.Answer.TheVariants.{Count, At, Read, Listed}
 use Rattle.outcomes.specs.declared.answers.Place.TheVariants.{Slot, Scratch}
 use Rattle.outcomes.specs.Said.{Said, no, numbers, value, words, said}
 use Rattle.outcomes.specs.Outcome.{Outcome}
@@ -54,28 +54,28 @@ reason-again Backward = refl
 reason-again ShortList = refl
 
 -- ---- the answer that says this; where none does, any
-abbrev answer_of : Said → Answer
-answer_of (no n) = No (reason_of n)
-answer_of (numbers []) = Count 0
-answer_of (numbers (n ∷ [])) = Count n
-answer_of (numbers (s ∷ n ∷ [])) = At (record { 0 = s }) (record { 0 = n })
-answer_of (numbers (s ∷ n ∷ m ∷ ns)) = Count 0
-answer_of (value none) = Read Absent
-answer_of (value (some v)) = Read (Holds (record { 0 = v }))
-answer_of (words n d none) = Listed n d Scratch
-answer_of (words n d (some i)) = Listed n d (Slot i)
+abbrev answer_of : Said → Result Answer Refusal
+answer_of (no n) = Err (reason_of n)
+answer_of (numbers []) = Ok (Count 0)
+answer_of (numbers (n ∷ [])) = Ok (Count n)
+answer_of (numbers (s ∷ n ∷ [])) = Ok (At (record { 0 = s }) (record { 0 = n }))
+answer_of (numbers (s ∷ n ∷ m ∷ ns)) = Ok (Count 0)
+answer_of (value none) = Ok (Read None)
+answer_of (value (some v)) = Ok (Read (Some (record { 0 = v })))
+answer_of (words n d none) = Ok (Listed n d Scratch)
+answer_of (words n d (some i)) = Ok (Listed n d (Slot i))
 
-answer-again : (a : Answer) → answer_of (said a) ≡ a
-answer-again (No why) = ap No (reason-again why)
-answer-again (Count n) = refl
-answer-again (At s n) = refl
-answer-again (Read (Holds v)) = refl
-answer-again (Read Absent) = refl
-answer-again (Listed n d (Slot i)) = refl
-answer-again (Listed n d Scratch) = refl
+answer-again : (a : Result Answer Refusal) → answer_of (said a) ≡ a
+answer-again (Err why) = ap Err (reason-again why)
+answer-again (Ok (Count n)) = refl
+answer-again (Ok (At s n)) = refl
+answer-again (Ok (Read (Some v))) = refl
+answer-again (Ok (Read None)) = refl
+answer-again (Ok (Listed n d (Slot i))) = refl
+answer-again (Ok (Listed n d Scratch)) = refl
 
 -- two answers that say the same are one
-pub said-one : (a b : Answer) → said a ≡ said b → a ≡ b
+pub said-one : (a b : Result Answer Refusal) → said a ≡ said b → a ≡ b
 said-one a b e = sym (answer-again a) ∙ ap answer_of e ∙ answer-again b
 
 -- ---- a contract that is an equality has no second outcome

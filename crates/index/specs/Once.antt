@@ -1,6 +1,7 @@
 -- "For each public call, input and refusal, the contract determines the answer and every cell of the lent tables and scratch
 -- afterwards": what that says of a contract.
-use Rattle.std.specs.Prelude.{◌≡◌, List, ℕ}
+use Rattle.std.specs.Prelude.{◌≡◌, List, ℕ, Result}
+use Rattle.tables.specs.declared.refusal.Refusal.{Refusal}
 use Rattle.tables.specs.Cells.{Tables}
 use Rattle.outcomes.specs.declared.answers.Answer.{Answer}
 use Rattle.outcomes.specs.declared.answers.Place.{Place}
@@ -14,7 +15,7 @@ use Rattle.outcomes.specs.Span.{span_of}
 -- are the same
 abbrev pub Once : (Tables → Outcome) → Type 0
 Once call =
-    (t t₁ t₂ : Tables) (bs₁ bs₂ : List (List ℕ)) (a₁ a₂ : Answer)
+    (t t₁ t₂ : Tables) (bs₁ bs₂ : List (List ℕ)) (a₁ a₂ : Result Answer Refusal)
     → outcome t₁ bs₁ (said a₁) ≡ call t → outcome t₂ bs₂ (said a₂) ≡ call t
     → (t₁ ≡ t₂) × (bs₁ ≡ bs₂) × (a₁ ≡ a₂)
 

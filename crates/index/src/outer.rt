@@ -1,5 +1,5 @@
-// The calls, over every lent table: each finds its seat and goes through its core; then its session is opened, put back or freed,
-// where the core says so.
+// The calls, over every lent table: each finds its seat and goes through its core, with the caller's numbers as rows and values; then its
+// session is opened, put back or freed, where the core did not refuse.
 ghost use Rattle.std.specs.Prelude.{◌≡◌, [], ◌∷◌};
 ghost use Rattle.tables.specs.Cells.{tables};
 ghost use Rattle.outcomes.specs.Said.{said};
@@ -8,12 +8,8 @@ ghost use Rattle.outcomes.specs.Calls.{create_of, begin_of, read_of, update_of, 
 ghost use Rattle.outcomes.specs.Query.{query_of};
 ghost use Rattle.outcomes.specs.Span.{span_of};
 
-use crate::cores::{
-    abort_at, begin_at, commit_at, create_at, delete_at, insert_at, query_at, read_at, span_at,
-    tidy_at, update_at,
-};
-use outcomes::Answer;
-use tables::Session;
+use outcomes::{Answer, Begun};
+use tables::{NumberTables, Refusal, Session};
 
 // Create: the row count.
 pub fn create(
@@ -26,17 +22,17 @@ pub fn create(
     sessions: &mut [Session],
     c: u64,
     column: &[u8],
-) -> Answer
+) -> Result<Answer, Refusal>
     ensures { outcome
         (tables clock.new slots.new words.new heads.new
         log.new changes.new sessions.new) [] (said result) ≡ create_of
         (tables clock.old slots.old words.old heads.old
         log.old changes.old sessions.old) c column.now }
 {
-    let many = lent::places(sessions);
-    let d = create_at(clock, slots, words, heads, log, changes, many, c, column);
-    lent::free_all(sessions, d.yes);
-    d.answer
+    let places = lent::places(sessions);
+    let answer = creating::create_in(clock, slots, words, heads, log, changes, places, c, column)?;
+    lent::free_all(sessions);
+    Ok(answer)
 }
 
 // Begin: the start stamp and row count.
@@ -49,7 +45,7 @@ pub fn begin(
     changes: &mut [u32],
     sessions: &mut [Session],
     n: u64,
-) -> Answer
+) -> Result<Answer, Refusal>
     ensures { outcome
         (tables clock.new slots.new words.new heads.new
         log.new changes.new sessions.new) [] (said result) ≡ begin_of
@@ -57,9 +53,21 @@ pub fn begin(
         log.old changes.old sessions.old) n }
 {
     let seat = lent::seat_of(clock, log, sessions, n);
-    let d = begin_at(clock, slots, words, heads, log, changes, seat, n);
-    lent::open(sessions, n, d.yes, d.start, d.rows);
-    d.answer
+    let t = NumberTables {
+        clock,
+        slots,
+        words,
+        heads,
+        log,
+        changes,
+    };
+    match listing::begin_in(t, seat, n)? {
+        Begun::Opened(start, rows) => {
+            lent::open(sessions, n, start, rows);
+            Ok(Answer::At(start, rows))
+        }
+        Begun::Stands(start, rows) => Ok(Answer::At(start, rows)),
+    }
 }
 
 // Query: the flip count, whether a tidy is due, and where the words stand; the words themselves are `picked`.
@@ -75,7 +83,7 @@ pub fn query(
     n: u64,
     v: u64,
     threshold: u64,
-) -> Answer
+) -> Result<Answer, Refusal>
     ensures { outcome
         (tables clock.new slots.new words.new heads.new
         log.new changes.new sessions.new) (scratch.new ∷ []) (said result) ≡ query_of
@@ -83,9 +91,15 @@ pub fn query(
         log.old changes.old sessions.old) scratch.old n v threshold }
 {
     let seat = lent::seat_of(clock, log, sessions, n);
-    query_at(
-        clock, slots, words, heads, log, changes, seat, scratch, n, v, threshold,
-    )
+    let t = NumberTables {
+        clock,
+        slots,
+        words,
+        heads,
+        log,
+        changes,
+    };
+    reading::query_in(t, scratch, seat, n, outcomes::value_of(v), threshold)
 }
 
 // Span: how many rows hold a value from `first` to `last`; they stand in the list's first cells, ascending, each once.
@@ -101,7 +115,7 @@ pub fn span(
     n: u64,
     first: u64,
     last: u64,
-) -> Answer
+) -> Result<Answer, Refusal>
     ensures { outcome
         (tables clock.new slots.new words.new heads.new
         log.new changes.new sessions.new) (list.new ∷ []) (said result) ≡ span_of
@@ -109,9 +123,17 @@ pub fn span(
         log.old changes.old sessions.old) list.old n first last }
 {
     let seat = lent::seat_of(clock, log, sessions, n);
-    span_at(
-        clock, slots, words, heads, log, changes, seat, list, n, first, last,
-    )
+    let t = NumberTables {
+        clock,
+        slots,
+        words,
+        heads,
+        log,
+        changes,
+    };
+    let low = outcomes::value_of(first);
+    let high = outcomes::value_of(last);
+    reading::span_in(t, list, seat, n, low, high)
 }
 
 // Read: the row's value, or that it is absent.
@@ -125,7 +147,7 @@ pub fn read(
     sessions: &mut [Session],
     n: u64,
     row: u64,
-) -> Answer
+) -> Result<Answer, Refusal>
     ensures { outcome
         (tables clock.new slots.new words.new heads.new
         log.new changes.new sessions.new) [] (said result) ≡ read_of
@@ -133,7 +155,15 @@ pub fn read(
         log.old changes.old sessions.old) n row }
 {
     let seat = lent::seat_of(clock, log, sessions, n);
-    read_at(clock, slots, words, heads, log, changes, seat, n, row)
+    let t = NumberTables {
+        clock,
+        slots,
+        words,
+        heads,
+        log,
+        changes,
+    };
+    reading::read_in(t, seat, n, outcomes::row_of(row))
 }
 
 // Update: the list's length.
@@ -148,7 +178,7 @@ pub fn update(
     n: u64,
     row: u64,
     v: u64,
-) -> Answer
+) -> Result<Answer, Refusal>
     ensures { outcome
         (tables clock.new slots.new words.new heads.new
         log.new changes.new sessions.new) [] (said result) ≡ update_of
@@ -156,9 +186,17 @@ pub fn update(
         log.old changes.old sessions.old) n row v }
 {
     let seat = lent::seat_of(clock, log, sessions, n);
-    let d = update_at(clock, slots, words, heads, log, changes, seat, n, row, v);
-    lent::put(sessions, n, d.yes, d.session);
-    d.answer
+    let t = NumberTables {
+        clock,
+        slots,
+        words,
+        heads,
+        log,
+        changes,
+    };
+    let session = listing::update_in(t, seat, n, outcomes::row_of(row), outcomes::value_of(v))?;
+    lent::put(sessions, n, session);
+    Ok(Answer::Count(session.count))
 }
 
 // Delete: the list's length.
@@ -172,7 +210,7 @@ pub fn delete(
     sessions: &mut [Session],
     n: u64,
     row: u64,
-) -> Answer
+) -> Result<Answer, Refusal>
     ensures { outcome
         (tables clock.new slots.new words.new heads.new
         log.new changes.new sessions.new) [] (said result) ≡ delete_of
@@ -180,9 +218,17 @@ pub fn delete(
         log.old changes.old sessions.old) n row }
 {
     let seat = lent::seat_of(clock, log, sessions, n);
-    let d = delete_at(clock, slots, words, heads, log, changes, seat, n, row);
-    lent::put(sessions, n, d.yes, d.session);
-    d.answer
+    let t = NumberTables {
+        clock,
+        slots,
+        words,
+        heads,
+        log,
+        changes,
+    };
+    let session = listing::delete_in(t, seat, n, outcomes::row_of(row))?;
+    lent::put(sessions, n, session);
+    Ok(Answer::Count(session.count))
 }
 
 // Insert: the list's length.
@@ -196,7 +242,7 @@ pub fn insert(
     sessions: &mut [Session],
     n: u64,
     v: u64,
-) -> Answer
+) -> Result<Answer, Refusal>
     ensures { outcome
         (tables clock.new slots.new words.new heads.new
         log.new changes.new sessions.new) [] (said result) ≡ insert_of
@@ -204,9 +250,17 @@ pub fn insert(
         log.old changes.old sessions.old) n v }
 {
     let seat = lent::seat_of(clock, log, sessions, n);
-    let d = insert_at(clock, slots, words, heads, log, changes, seat, n, v);
-    lent::put(sessions, n, d.yes, d.session);
-    d.answer
+    let t = NumberTables {
+        clock,
+        slots,
+        words,
+        heads,
+        log,
+        changes,
+    };
+    let session = listing::insert_in(t, seat, n, outcomes::value_of(v))?;
+    lent::put(sessions, n, session);
+    Ok(Answer::Count(session.count))
 }
 
 // Commit: the stamp and the row count after it.
@@ -219,7 +273,7 @@ pub fn commit(
     changes: &mut [u32],
     sessions: &mut [Session],
     n: u64,
-) -> Answer
+) -> Result<Answer, Refusal>
     ensures { outcome
         (tables clock.new slots.new words.new heads.new
         log.new changes.new sessions.new) [] (said result) ≡ commit_of
@@ -227,9 +281,9 @@ pub fn commit(
         log.old changes.old sessions.old) n }
 {
     let seat = lent::seat_of(clock, log, sessions, n);
-    let d = commit_at(clock, slots, words, heads, log, changes, seat, n);
-    lent::free(sessions, n, d.yes);
-    d.answer
+    let answer = committing::commit_in(clock, slots, words, heads, log, changes, seat, n)?;
+    lent::free(sessions, n);
+    Ok(answer)
 }
 
 // Tidy: the stamp after it, and how many rows moved.
@@ -243,7 +297,7 @@ pub fn tidy(
     sessions: &mut [Session],
     n: u64,
     v: u64,
-) -> Answer
+) -> Result<Answer, Refusal>
     ensures { outcome
         (tables clock.new slots.new words.new heads.new
         log.new changes.new sessions.new) [] (said result) ≡ tidy_of
@@ -251,7 +305,7 @@ pub fn tidy(
         log.old changes.old sessions.old) n v }
 {
     let seat = lent::seat_of(clock, log, sessions, n);
-    tidy_at(clock, slots, words, heads, log, changes, seat, n, v)
+    tidying::tidy_in(clock, slots, words, heads, log, changes, seat, n, outcomes::value_of(v))
 }
 
 // Abort: the length of the list dropped.
@@ -264,7 +318,7 @@ pub fn abort(
     changes: &mut [u32],
     sessions: &mut [Session],
     n: u64,
-) -> Answer
+) -> Result<Answer, Refusal>
     ensures { outcome
         (tables clock.new slots.new words.new heads.new
         log.new changes.new sessions.new) [] (said result) ≡ abort_of
@@ -272,7 +326,15 @@ pub fn abort(
         log.old changes.old sessions.old) n }
 {
     let seat = lent::seat_of(clock, log, sessions, n);
-    let d = abort_at(clock, slots, words, heads, log, changes, seat, n);
-    lent::free(sessions, n, d.yes);
-    d.answer
+    let t = NumberTables {
+        clock,
+        slots,
+        words,
+        heads,
+        log,
+        changes,
+    };
+    let answer = listing::abort_in(t, seat, n)?;
+    lent::free(sessions, n);
+    Ok(answer)
 }

@@ -7,7 +7,7 @@ ghost use Rattle.outcomes.specs.Query.{query_of};
 ghost use Rattle.outcomes.specs.Span.{span_of};
 ghost use Rattle.kerenvuf.specs.Heard.{seen, in_numbers};
 
-use crate::in_numbers::{KvAnswer, numbers};
+use crate::in_numbers::KvAnswer;
 use tables::Session;
 
 // Create: the row count.
@@ -29,10 +29,7 @@ pub extern "C" fn kv_create(
         (tables clock.old slots.old words.old heads.old
         log.old changes.old sessions.old) c column.now) }
 {
-    let answer = index::create(
-        clock, slots, words, heads, log, changes, sessions, c, column,
-    );
-    numbers(answer)
+    KvAnswer::from(index::create(clock, slots, words, heads, log, changes, sessions, c, column))
 }
 
 // Begin: the start stamp and row count.
@@ -53,8 +50,7 @@ pub extern "C" fn kv_begin(
         (tables clock.old slots.old words.old heads.old
         log.old changes.old sessions.old) n) }
 {
-    let answer = index::begin(clock, slots, words, heads, log, changes, sessions, n);
-    numbers(answer)
+    KvAnswer::from(index::begin(clock, slots, words, heads, log, changes, sessions, n))
 }
 
 // Query: the flip count, whether a tidy is due, and where the words stand; `kv_picked` copies them.
@@ -78,10 +74,7 @@ pub extern "C" fn kv_query(
         (tables clock.old slots.old words.old heads.old
         log.old changes.old sessions.old) scratch.old n v threshold) }
 {
-    let answer = index::query(
-        clock, slots, words, heads, log, changes, sessions, scratch, n, v, threshold,
-    );
-    numbers(answer)
+    KvAnswer::from(index::query(clock, slots, words, heads, log, changes, sessions, scratch, n, v, threshold))
 }
 
 // Span: how many rows hold a value from `first` to `last`; they stand in the list's first cells, ascending, each once.
@@ -105,10 +98,7 @@ pub extern "C" fn kv_span(
         (tables clock.old slots.old words.old heads.old
         log.old changes.old sessions.old) list.old n first last) }
 {
-    let answer = index::span(
-        clock, slots, words, heads, log, changes, sessions, list, n, first, last,
-    );
-    numbers(answer)
+    KvAnswer::from(index::span(clock, slots, words, heads, log, changes, sessions, list, n, first, last))
 }
 
 // Read: the row's value, or that it is absent.
@@ -130,8 +120,7 @@ pub extern "C" fn kv_read(
         (tables clock.old slots.old words.old heads.old
         log.old changes.old sessions.old) n row) }
 {
-    let answer = index::read(clock, slots, words, heads, log, changes, sessions, n, row);
-    numbers(answer)
+    KvAnswer::from(index::read(clock, slots, words, heads, log, changes, sessions, n, row))
 }
 
 // Update: the list's length.
@@ -154,10 +143,7 @@ pub extern "C" fn kv_update(
         (tables clock.old slots.old words.old heads.old
         log.old changes.old sessions.old) n row v) }
 {
-    let answer = index::update(
-        clock, slots, words, heads, log, changes, sessions, n, row, v,
-    );
-    numbers(answer)
+    KvAnswer::from(index::update(clock, slots, words, heads, log, changes, sessions, n, row, v))
 }
 
 // Delete: the list's length.
@@ -179,8 +165,7 @@ pub extern "C" fn kv_delete(
         (tables clock.old slots.old words.old heads.old
         log.old changes.old sessions.old) n row) }
 {
-    let answer = index::delete(clock, slots, words, heads, log, changes, sessions, n, row);
-    numbers(answer)
+    KvAnswer::from(index::delete(clock, slots, words, heads, log, changes, sessions, n, row))
 }
 
 // Insert: the list's length.
@@ -202,8 +187,7 @@ pub extern "C" fn kv_insert(
         (tables clock.old slots.old words.old heads.old
         log.old changes.old sessions.old) n v) }
 {
-    let answer = index::insert(clock, slots, words, heads, log, changes, sessions, n, v);
-    numbers(answer)
+    KvAnswer::from(index::insert(clock, slots, words, heads, log, changes, sessions, n, v))
 }
 
 // Commit: the stamp and the row count after it.
@@ -224,8 +208,7 @@ pub extern "C" fn kv_commit(
         (tables clock.old slots.old words.old heads.old
         log.old changes.old sessions.old) n) }
 {
-    let answer = index::commit(clock, slots, words, heads, log, changes, sessions, n);
-    numbers(answer)
+    KvAnswer::from(index::commit(clock, slots, words, heads, log, changes, sessions, n))
 }
 
 // Tidy: the stamp after it, and how many rows moved.
@@ -247,8 +230,7 @@ pub extern "C" fn kv_tidy(
         (tables clock.old slots.old words.old heads.old
         log.old changes.old sessions.old) n v) }
 {
-    let answer = index::tidy(clock, slots, words, heads, log, changes, sessions, n, v);
-    numbers(answer)
+    KvAnswer::from(index::tidy(clock, slots, words, heads, log, changes, sessions, n, v))
 }
 
 // Abort: the length of the list dropped.
@@ -269,6 +251,5 @@ pub extern "C" fn kv_abort(
         (tables clock.old slots.old words.old heads.old
         log.old changes.old sessions.old) n) }
 {
-    let answer = index::abort(clock, slots, words, heads, log, changes, sessions, n);
-    numbers(answer)
+    KvAnswer::from(index::abort(clock, slots, words, heads, log, changes, sessions, n))
 }

@@ -1,5 +1,0 @@
--- What the core promises of every table that shows this seat.
-use Rattle.index.proofs.outer.span.Goals as goal
-
-pub returns : goal.returns
-returns c = c.span_at.ensures c.args.sessions.now c.seat_of-seat.ensures
