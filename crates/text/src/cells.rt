@@ -9,13 +9,16 @@ ghost use Rattle.text.specs.Short.{short_known, short_value, turned_bytes, Turne
 
 use fields::Field;
 
+// What a number in a column is at most.
+const LARGEST_VALUE: u64 = 254;
+
 // The number up to 254 in the field after the space at `at`, if it is one.
 pub fn small_at(line: &[u8], at: usize) -> Option<Field>
     requires { at ≤ length line.now }
     ensures { result ≡ field_by small line.now at }
 {
     let got = fields::number_at(line, at)?;
-    if 254 < got.value {
+    if LARGEST_VALUE < got.value {
         return None;
     }
     Some(got)

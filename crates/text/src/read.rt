@@ -6,13 +6,16 @@ use crate::requests::{Request, column_request, numbers};
 use crate::words;
 use crate::words::Word;
 
-// What a line asks for, if it can be read; one of more than 8,192 bytes is not read. A column's values go into `column` from its front,
+// A longer line is not read.
+const LONGEST_LINE: usize = 8192;
+
+// What a line asks for, if it can be read. A column's values go into `column` from its front,
 // which takes one for each two bytes of the longest line.
 pub fn request(line: &[u8], column: &mut [u8]) -> Option<Request>
     requires { 4096 ≤ length column.old }
     ensures { Requested line.now column.old column.new result }
 {
-    if 8192 < line.len() {
+    if LONGEST_LINE < line.len() {
         return None;
     }
     let at = fields::end_from(line, 0, b' ');
