@@ -38,7 +38,8 @@ fn put_rows(out: &mut [u8], start: usize, vector: &[u64]) -> usize
 {
     let mut at = start;
     for (i, word) in vector.iter().enumerate() {
-        at = put_word(out, at, *word, (i * 64) as u32);
+        // By `as u32` the compiler divides a row by more steps: 0.5 % of an evening.
+        at = put_word(out, at, *word, bits::narrow(i * 64));
     }
     at
 }

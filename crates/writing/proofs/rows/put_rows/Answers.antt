@@ -8,7 +8,7 @@ pub loop-i-init : goal.loop-i-init
 loop-i-init c = worded-none _ _ _
 
 pub loop-i-preserved : goal.loop-i-preserved
-loop-i-preserved c = worded-step _ _ _ _ _ _ c.loop-i.invariant _ _ _ _ refl refl c.put_word-at.ensures
+loop-i-preserved c = worded-step _ _ _ _ _ _ c.loop-i.invariant _ _ _ _ refl c.narrow.ensures c.put_word-at.ensures
 
 pub returns : goal.returns
 returns c = worded-end _ _ _ _ _ _ c.loop-i.invariant (omega arith)
