@@ -1,8 +1,9 @@
 -- Laws of the loops that write the rows of a vector: from one set bit of a word to the next, and a word at a time.
 use mathlib.Core.Path.{◌≡◌, refl, sym, ap, ◌∙◌}
 use mathlib.Core.List.{List, [], ◌∷◌}
-use mathlib.Core.Bool.{Bool, cond}
+use mathlib.Core.Bool.{Bool, true, false, cond}
 use Prim.Native.Nat.{ℕ, ◌+◌, ◌-◌, ◌*◌, ◌^◌, ◌<◌, ◌≤◌}
+use mir.Val.{bool_byte}
 use native.Mathlib.Omega.{arith}
 use lib.Bits.{bit_and, and_le_l}
 use lib.Count.{count_trailing_zeros}
@@ -105,14 +106,19 @@ module _ (ws entry out : List ℕ) (start at i : ℕ) (g : Worded ws entry out s
 
 -- ---- the whole answer
 
-pub query-rows : (ws d e g : List ℕ) (flips due n j : ℕ) (t : Bool) (m r : ℕ) → due ≡ cond t 1 0 → n ≡ j → j ≡ count_of ws
+-- a bool as a number
+pub from_bool : (t : Bool) → bool_byte t ≡ cond t 1 0
+from_bool false = refl
+from_bool true = refl
+
+pub query-rows : (ws d e g : List ℕ) (flips due n j : ℕ) (t : Bool) (m r : ℕ) → due ≡ bool_byte t → n ≡ j → j ≡ count_of ws
     → Answered d (ok (flips ∷ due ∷ n ∷ [])) e m 35 → (Wrote e m (spaced (rows_of ws)) g r) × (r ≤ m + 320 * length ws)
     → Answered d (listed flips t (rows_of ws)) g r (35 + 320 * length ws)
 unfolding show
 query-rows ws d e g flips due n j t m r p i q u w =
     let c : n ≡ length (rows_of ws) = i ∙ q ∙ count-rows ws in
     record {
-      wrote = rw (← c, ← p) (ok-then (flips ∷ due ∷ n ∷ []) (rows_of ws) d e g m r u.wrote w.0);
+      wrote = rw (← c, ← from_bool t, ← p) (ok-then (flips ∷ due ∷ n ∷ []) (rows_of ws) d e g m r u.wrote w.0);
       short = omega (arith, u.short, w.1);
     }
 

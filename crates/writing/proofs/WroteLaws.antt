@@ -1,10 +1,12 @@
 -- Laws of bytes written one after another: digits, numbers, answers.
-use mathlib.Core.Path.{◌≡◌, ap, ◌∙◌}
-use mathlib.Core.List.{List, [], ◌∷◌, ◌++◌}
+use mathlib.Core.Path.{◌≡◌, refl, sym, ap, ◌∙◌}
+use mathlib.Core.List.{List, [], ◌∷◌, ◌++◌, append_assoc}
 use mathlib.Core.Option.{none}
 use Prim.Native.Nat.{ℕ, suc, ◌+◌, ◌-◌, ◌*◌, ◌/◌, ◌%◌, ◌^◌, ◌<◌, ◌≤◌}
 use native.Mathlib.Omega.{arith}
-use lib.ListN.{length, get_or, length-append}
+use borrow.Rule.Slice.PartMut.{put_mid}
+use lib.ListN.{length, take, drop, get_or, length-append}
+use lib.Seq.{sets, sets-eq, length-sets, drop-drop}
 use Rattle.bits.proofs.TabLaws.{length-tab, get_or-tab, sets-append}
 use Rattle.rules.specs.Calls.{Answer, refused, ok, value}
 use Rattle.text.specs.Bytes.{bytes}
@@ -24,33 +26,32 @@ wrote_then d a e b f at m n u v =
       room = v.room ∙ u.room;
     }
 
+-- bytes copied to a part of their length
+pub wrote-part : (d bs ys : List ℕ) (at : ℕ) → at + length bs ≤ length d → ys ≡ bs
+    → Wrote d at bs (put_mid at (at + length bs - at) d ys) (at + length bs)
+wrote-part d bs ys at h e =
+    let k : at + length bs - at ≡ length bs = omega arith in
+    let s : put_mid at (at + length bs - at) d ys ≡ sets d at bs = rw (e, k, drop-drop (length bs) at d) (sym (sets-eq bs d at h ∙ append_assoc (take at d) bs (drop (at + length bs) d))) in
+    record { list-is = s; place_is = refl; room = ap length s ∙ length-sets d at bs }
+
 -- ---- digits
 
-pub wrote-two : (d e f : List ℕ) (at m n t a b r : ℕ) → t ≡ n / 10 → a ≡ 48 + t → b ≡ 48 + (n - 10 * t) → Wrote d at (a ∷ []) e m
-    → Wrote e m (b ∷ []) f r
-    → Wrote d at (two_digits n) f r
-wrote-two d e f at m n t a b r o p q u v =
-    let x : a ≡ 48 + n / 10 = omega arith in
-    let y : b ≡ 48 + n % 10 = omega arith in
-    rw (← x, ← y) (wrote_then d (a ∷ []) e (b ∷ []) f at m r u v)
-
--- two digits from the text of the numbers below 100
+-- two digits of the text of the numbers below 100
 pub pairs-length : (text : List ℕ) → text ≡ pairs → length text ≡ 200
 unfolding pairs
 pairs-length text e = ap length e ∙ length-tab pair_byte 200
 
-pub wrote-pair : (d e f text : List ℕ) (at m n w i r : ℕ) → n < 100 → text ≡ pairs → w ≡ n → i ≡ 2 * w → Wrote d at (get_or text i 0 ∷ []) e m
-    → Wrote e m (get_or text (i + 1) 0 ∷ []) f r → Wrote d at (two_digits n) f r
+pub wrote-two : (d e f text : List ℕ) (at m n r : ℕ) → n < 100 → text ≡ pairs → Wrote d at (get_or text (2 * n) 0 ∷ []) e m
+    → Wrote e m (get_or text (2 * n + 1) 0 ∷ []) f r → Wrote d at (two_digits n) f r
 unfolding pairs pair_byte
-wrote-pair d e f text at m n w i r h t p q u v =
-    let k : i ≡ 2 * n = omega arith in
+wrote-two d e f text at m n r h t u v =
     let a : 2 * n % 2 ≡ 0 = omega arith in
     let b : (2 * n + 1) % 2 ≡ 1 = omega arith in
     let c : 2 * n / 2 ≡ n = omega arith in
     let g : (2 * n + 1) / 2 ≡ n = omega arith in
-    let x : get_or text i 0 ≡ 48 + n / 10 = rw (t, k) (get_or-tab pair_byte 200 (2 * n) 0 (omega arith) ∙ rw (a, c)) in
-    let y : get_or text (i + 1) 0 ≡ 48 + n % 10 = rw (t, k) (get_or-tab pair_byte 200 (2 * n + 1) 0 (omega arith) ∙ rw (b, g)) in
-    rw (← x, ← y) (wrote_then d (get_or text i 0 ∷ []) e (get_or text (i + 1) 0 ∷ []) f at m r u v)
+    let x : get_or text (2 * n) 0 ≡ 48 + n / 10 = rw t (get_or-tab pair_byte 200 (2 * n) 0 (omega arith) ∙ rw (a, c)) in
+    let y : get_or text (2 * n + 1) 0 ≡ 48 + n % 10 = rw t (get_or-tab pair_byte 200 (2 * n + 1) 0 (omega arith) ∙ rw (b, g)) in
+    rw (← x, ← y) (wrote_then d (get_or text (2 * n) 0 ∷ []) e (get_or text (2 * n + 1) 0 ∷ []) f at m r u v)
 
 pub wrote-four : (d e f : List ℕ) (at m n r : ℕ) → Wrote d at (two_digits (n / 100)) e m → Wrote e m (two_digits (n % 100)) f r
     → Wrote d at (four_digits n) f r
@@ -87,20 +88,21 @@ field-far d f at n r w h = omega (arith, w.place_is, decimal-fits 9 n (omega ari
 pub wrote-field : (d e f : List ℕ) (at m n r : ℕ) → Wrote d at (32 ∷ []) e m → Wrote e m (decimal n) f r → Wrote d at (field_of n) f r
 wrote-field d e f at m n r u v = wrote_then d (32 ∷ []) e (decimal n) f at m r u v
 
-pub no_one : (d e f g : List ℕ) (m k n r : ℕ) → n < 2 ^ 32 → Wrote d 0 (110 ∷ []) e m → Wrote e m (111 ∷ []) f k
-    → Wrote f k (field_of n) g r → Answered d (refused n) g r 13
+pub no_one : (d e f : List ℕ) (m n r : ℕ) → n < 2 ^ 32 → Wrote d 0 (bytes "no") e m → Wrote e m (field_of n) f r → Answered d (refused n) f r 13
 unfolding show
-no_one d e f g m k n r h u v w =
+no_one d e f m n r h u w =
     record {
-      wrote = rw (spaced-one n) (wrote_then d (110 ∷ 111 ∷ []) f (field_of n) g 0 k r (wrote_then d (110 ∷ []) e (111 ∷ []) f 0 m k u v) w);
-      short = omega (arith, u.place_is, v.place_is, field-far f g k n r w h);
+      wrote = rw (spaced-one n) (wrote_then d (bytes "no") e (field_of n) f 0 m r u w);
+      short = omega (arith, u.place_is, field-far e f m n r w h);
     }
 
-pub ok-none : (d e f : List ℕ) (m r : ℕ) → Wrote d 0 (111 ∷ []) e m → Wrote e m (107 ∷ []) f r → Answered d (ok []) f r 2
+pub ok-none : (d e : List ℕ) (r : ℕ) → Wrote d 0 (bytes "ok") e r → Answered d (ok []) e r 2
 unfolding show spaced
-ok-none d e f m r u v =
-    let t : Wrote d 0 (bytes "ok") f r = wrote_then d (111 ∷ []) e (107 ∷ []) f 0 m r u v in
-    record { wrote = t; short = omega (arith, t.place_is) }
+ok-none d e r u = record { wrote = u; short = omega (arith, u.place_is) }
+
+pub ok-dash : (d e : List ℕ) (r : ℕ) → Wrote d 0 (bytes "ok -") e r → Answered d (value none) e r 4
+unfolding show
+ok-dash d e r u = record { wrote = u; short = omega (arith, u.place_is) }
 
 -- `ok` and numbers, then more
 pub ok-then : (ns ms d e f : List ℕ) (m r : ℕ) → Wrote d 0 (show (ok ns)) e m → Wrote e m (spaced ms) f r
@@ -117,14 +119,6 @@ ok-more ns ms d e f m n r k most h u v q l =
       wrote = ok-then ns (n ∷ []) d e f m r u.wrote (rw (spaced-one n) v);
       short = omega (arith, u.short, field-far e f m n r v h);
     }
-
-pub ok-dash : (d e f g : List ℕ) (m k r : ℕ) → Answered d (ok []) e m 2 → Wrote e m (32 ∷ []) f k → Wrote f k (45 ∷ []) g r
-    → Answered d (value none) g r 4
-unfolding show spaced
-ok-dash d e f g m k r u v w =
-    let t : Wrote d 0 (bytes "ok -") g r = wrote_then d (111 ∷ 107 ∷ []) e (32 ∷ 45 ∷ []) g 0 m r u.wrote
-    (wrote_then e (32 ∷ []) f (45 ∷ []) g m k r v w) in
-    record { wrote = t; short = omega (arith, t.place_is) }
 
 -- an answer and its newline
 pub answer-line : (a : Answer) (d e f : List ℕ) (n r most : ℕ) → Answered d a e n most → Wrote e n (newline ∷ []) f r

@@ -2,7 +2,6 @@
 #![tactic(auto)]
 
 mod digits;
-mod pairs;
 mod replies;
 mod rows;
 

@@ -12,9 +12,8 @@ pub fn put_no(out: &mut [u8], n: u32) -> usize
     requires { 13 ≤ length out.old }
     ensures { Answered out.old (refused n) out.new result 13 }
 {
-    let next = digits::put_byte(out, 0, b'n');
-    let then = digits::put_byte(out, next, b'o');
-    digits::put_field(out, then, n)
+    let next = digits::put_bytes(out, 0, b"no");
+    digits::put_field(out, next, n)
 }
 
 // `ok`.
@@ -22,8 +21,7 @@ fn put_ok(out: &mut [u8]) -> usize
     requires { 2 ≤ length out.old }
     ensures { Answered out.old (ok []) out.new result 2 }
 {
-    let next = digits::put_byte(out, 0, b'o');
-    digits::put_byte(out, next, b'k')
+    digits::put_bytes(out, 0, b"ok")
 }
 
 // `ok` and a number.
@@ -58,9 +56,7 @@ pub fn put_absent(out: &mut [u8]) -> usize
     requires { 4 ≤ length out.old }
     ensures { Answered out.old (value none) out.new result 4 }
 {
-    let next = put_ok(out);
-    let then = digits::put_byte(out, next, b' ');
-    digits::put_byte(out, then, b'-')
+    digits::put_bytes(out, 0, b"ok -")
 }
 
 // A newline after an answer of `n` bytes.

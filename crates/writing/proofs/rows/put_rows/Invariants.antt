@@ -1,11 +1,6 @@
 -- `rows::put_rows` meets its contract: the rows of the words that were passed are written.
-use Prim.Native.Nat.{◌-◌, ◌≤◌}
-use lib.ListN.{length}
 use Rattle.writing.proofs.RowLaws.{Worded}
 use Rattle.writing.proofs.rows.put_rows.Given as goal
 
 abbrev pub invariant-loop-i : goal.invariant-loop-i
-invariant-loop-i l = (l.i ≤ length l.vector) × Worded l.vector l.initial.out l.out l.start l.at l.i
-
-abbrev pub decreases-loop-i : goal.decreases-loop-i
-decreases-loop-i l = length l.vector - l.i
+invariant-loop-i l = Worded l.vector l.initial.out l.out l.start l.at l.i
