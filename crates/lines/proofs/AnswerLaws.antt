@@ -14,8 +14,7 @@ use Rattle.tables.specs.declared.counts.Row.{Row}
 use Rattle.tables.specs.declared.counts.Value.{Value}
 use Rattle.tables.specs.declared.refusal.Refusal.{Refusal}
 use Rattle.tables.specs.Refusals.{number_of}
-use Rattle.history.specs.declared.read.Standing.{Standing}
-use Rattle.history.specs.declared.read.Standing.TheVariants.{Holds, Absent}
+use Rattle.std.specs.Prelude as std
 use Rattle.history.specs.Read.{standing_of}
 use Rattle.text.specs.Show.{show}
 use Rattle.fields.specs.Split.{newline}
@@ -23,7 +22,7 @@ use Rattle.writing.specs.Wrote.{Wrote, Answered}
 use Rattle.writing.proofs.WroteLaws.{answer-line}
 use Rattle.outcomes.specs.declared.answers.Place.{Place}
 use Rattle.outcomes.specs.declared.answers.Answer as core
-use Rattle.outcomes.specs.declared.answers.Answer.TheVariants.{No, Count, At, Read, Listed}
+use Rattle.outcomes.specs.declared.answers.Answer.TheVariants.{Count, At, Read, Listed}
 use Rattle.outcomes.specs.Said.{said, place_of}
 use Rattle.outcomes.specs.Query.{picked_from}
 use Rattle.lines.specs.Line.{answer_line, PutLine}
@@ -49,57 +48,57 @@ queried-fits ws s vector out place e l = omega (arith, queried-few ws s vector p
 
 -- ---- read
 
-module _ (d e : List ℕ) (r : ℕ) (found : Standing) where
-  pub put_holds : (v : Value) → found ≡ Holds v → Answered d (ok (v.0 ∷ [])) e r 13 → Answered d (value (standing_of found)) e r 13
+module _ (d e : List ℕ) (r : ℕ) (found : std.Option Value) where
+  pub put_holds : (v : Value) → found ≡ std.Some v → Answered d (ok (v.0 ∷ [])) e r 13 → Answered d (value (standing_of found)) e r 13
   unfolding show
   put_holds v p a =
       let b : Answered d (value (some v.0)) e r 13 = record { wrote = a.wrote; short = a.short } in
       rw p b
 
-  pub put-none : found ≡ Absent → Answered d (value none) e r 4 → Answered d (value (standing_of found)) e r 13
+  pub put-none : found ≡ std.None → Answered d (value none) e r 4 → Answered d (value (standing_of found)) e r 13
   put-none p a =
       let b : Answered d (value none) e r 13 = record { wrote = a.wrote; short = omega (arith, a.short) } in
       rw p b
 
 -- ---- every answer
 
-module _ (ws s d e : List ℕ) (r : ℕ) (answer : core.Answer) where
-  heard-as : (x : core.Answer) (a : Answer) (k : ℕ) → answer ≡ x → heard_from ws s (said x) ≡ a → Answered d a e r k → k ≤ 10275
+module _ (ws s d e : List ℕ) (r : ℕ) (answer : std.Result core.Answer Refusal) where
+  heard-as : (x : std.Result core.Answer Refusal) (a : Answer) (k : ℕ) → answer ≡ x → heard_from ws s (said x) ≡ a → Answered d a e r k → k ≤ 10275
       → Answered d (heard_from ws s (said answer)) e r 10275
   heard-as x a k p q h l =
       let b : Answered d a e r 10275 = record { wrote = h.wrote; short = omega (arith, h.short, l) } in
       rw (p, q) b
 
-  pub put_refused : (why : Refusal) (n : ℕ) → answer ≡ No why → n ≡ number_of why → Answered d (refused n) e r 13
+  pub put_refused : (why : Refusal) (n : ℕ) → answer ≡ std.Err why → n ≡ number_of why → Answered d (refused n) e r 13
       → Answered d (heard_from ws s (said answer)) e r 10275
   unfolding heard_from
-  put_refused why n p q h = heard-as (No why) (refused n) 13 p (ap refused (sym q)) h (omega arith)
+  put_refused why n p q h = heard-as (std.Err why) (refused n) 13 p (ap refused (sym q)) h (omega arith)
 
-  pub put_count : (n : ℕ) → answer ≡ Count n → Answered d (ok (n ∷ [])) e r 13 → Answered d (heard_from ws s (said answer)) e r 10275
+  pub put_count : (n : ℕ) → answer ≡ std.Ok (Count n) → Answered d (ok (n ∷ [])) e r 13 → Answered d (heard_from ws s (said answer)) e r 10275
   unfolding heard_from
-  put_count n p h = heard-as (Count n) (ok (n ∷ [])) 13 p refl h (omega arith)
+  put_count n p h = heard-as (std.Ok (Count n)) (ok (n ∷ [])) 13 p refl h (omega arith)
 
-  pub put-at : (t : Stamp) (n : Row) → answer ≡ At t n → Answered d (ok (t.0 ∷ n.0 ∷ [])) e r 24
+  pub put-at : (t : Stamp) (n : Row) → answer ≡ std.Ok (At t n) → Answered d (ok (t.0 ∷ n.0 ∷ [])) e r 24
       → Answered d (heard_from ws s (said answer)) e r 10275
   unfolding heard_from
-  put-at t n p h = heard-as (At t n) (ok (t.0 ∷ n.0 ∷ [])) 24 p refl h (omega arith)
+  put-at t n p h = heard-as (std.Ok (At t n)) (ok (t.0 ∷ n.0 ∷ [])) 24 p refl h (omega arith)
 
-  pub put-read : (x : Standing) → answer ≡ Read x → Answered d (value (standing_of x)) e r 13
+  pub put-read : (x : std.Option Value) → answer ≡ std.Ok (Read x) → Answered d (value (standing_of x)) e r 13
       → Answered d (heard_from ws s (said answer)) e r 10275
   unfolding heard_from
-  put-read x p h = heard-as (Read x) (value (standing_of x)) 13 p refl h (omega arith)
+  put-read x p h = heard-as (std.Ok (Read x)) (value (standing_of x)) 13 p refl h (omega arith)
 
-  pub put-listed : (flips : ℕ) (due : Bool) (place : Place) (vector : List ℕ) → answer ≡ Listed flips due place
+  pub put-listed : (flips : ℕ) (due : Bool) (place : Place) (vector : List ℕ) → answer ≡ std.Ok (Listed flips due place)
       → vector ≡ picked_from ws s (place_of place)
       → Answered d (listed flips due (rows_of vector)) e r (35 + 320 * length vector) → Answered d (heard_from ws s (said answer)) e r 10275
   unfolding heard_from
   put-listed flips due place vector p q h =
-      heard-as (Listed flips due place) (listed flips due (rows_of vector)) (35 + 320 * length vector) p
+      heard-as (std.Ok (Listed flips due place)) (listed flips due (rows_of vector)) (35 + 320 * length vector) p
       (ap (λ (v : List ℕ). listed flips due (rows_of v)) (sym q)) h
       (omega (arith, ap length q, picked-short ws s (place_of place)))
 
 -- an answer and its newline
-pub put-answered : (ws s d e f : List ℕ) (n r : ℕ) (answer : core.Answer) → Answered d (heard_from ws s (said answer)) e n 10275
+pub put-answered : (ws s d e f : List ℕ) (n r : ℕ) (answer : std.Result core.Answer Refusal) → Answered d (heard_from ws s (said answer)) e n 10275
     → Wrote e n (newline ∷ []) f r
     → PutLine d (heard_from ws s (said answer)) f r
 unfolding answer_line

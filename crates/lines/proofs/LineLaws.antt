@@ -15,11 +15,8 @@ use Rattle.text.specs.declared.requests.Request.{Request}
 use Rattle.text.specs.Parse.{parse}
 use Rattle.text.specs.Asked.{asked, line_bytes, Requested}
 use Rattle.outcomes.specs.Said.{Said}
-use Rattle.lines.specs.declared.sessions.Left.{Left}
-use Rattle.lines.specs.Left.{leaves}
 use Rattle.lines.specs.Turn.{Turn, turn_of, heard_from, Turned}
 use Rattle.lines.specs.Line.{line_outcome, enough, answer_line, PutLine, written, line_of}
-use Rattle.lines.proofs.TurnLaws.{all-stand}
 
 -- ---- where there is room for any answer and any column, what was asked for is done and written
 
@@ -54,19 +51,3 @@ module _ (t : Tables) (scratch column out line : List ℕ) where
   pub short-out : length out < 10276 → line_outcome t scratch column out 0 ≡ line_of t scratch column out line
   short-out l = short (ap (λ (b : Bool). leb 4096 (length column) && b) (lt-leb 10276 (length out) l)
       ∙ and-false (leb 4096 (length column)))
-
--- nothing is done: no session changes
-module _ (clock slots words heads log changes scratch column out line : List ℕ) (ts : List Session) (l : Left) (len : ℕ)
-    (e : len ≡ 0) (p : l.put ≡ false) (z : l.anew ≡ false) where
-  abbrev lent : List Session → Tables
-  lent = tables clock slots words heads log changes
-
-  none_done : line_outcome (lent (leaves ts l)) scratch column out len ≡ line_outcome (lent ts) scratch column out 0
-  none_done = ap₂ (λ (us : List Session) (n : ℕ). line_outcome (lent us) scratch column out n) (all-stand ts l p z) e
-
-  pub nothing-column : length column < 4096
-      → line_outcome (lent (leaves ts l)) scratch column out len ≡ line_of (lent ts) scratch column out line
-  nothing-column h = none_done ∙ short-column (lent ts) scratch column out line h
-
-  pub nothing-out : length out < 10276 → line_outcome (lent (leaves ts l)) scratch column out len ≡ line_of (lent ts) scratch column out line
-  nothing-out h = none_done ∙ short-out (lent ts) scratch column out line h

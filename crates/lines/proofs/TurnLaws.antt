@@ -21,12 +21,11 @@ use Rattle.tables.specs.declared.session.Session.{Session}
 use Rattle.tables.specs.declared.counts.Stamp.{Stamp}
 use Rattle.tables.specs.declared.counts.Row.{Row}
 use Rattle.tables.specs.declared.refusal.Refusal.{Refusal}
+use Rattle.tables.specs.declared.refusal.Refusal.TheVariants.{Unreadable}
 use Rattle.tables.specs.Cells.{Tables, tables, stamp_in, rows_in}
 use Rattle.tables.specs.Clock.{clock_in}
 use Rattle.tables.specs.Sessions.{freed, begun}
 use Rattle.tables.specs.Meaning.{meaning}
-use Rattle.lent.specs.Places.{put_at, freed_all, all_freed}
-use Rattle.history.specs.declared.read.Standing.{Standing}
 use Rattle.history.specs.Version.{slot_seen}
 use Rattle.std.specs.Prelude.{Some, None}
 use Rattle.std.specs.Prelude as std
@@ -35,7 +34,6 @@ use Rattle.text.specs.declared.requests.Request.TheVariants as request
 use Rattle.text.specs.Asked.{asked_by, asked, taken_by, taken}
 use Rattle.outcomes.specs.declared.answers.Place.{Place}
 use Rattle.outcomes.specs.declared.answers.Answer as core
-use Rattle.outcomes.specs.declared.answers.Answer.TheVariants.{No, Count, At, Read, Listed}
 use Rattle.outcomes.specs.Said.{Said, no, numbers, value, words, said}
 use Rattle.outcomes.specs.Outcome.{Outcome, outcome, unless}
 use Rattle.outcomes.specs.Calls.{own, reseated, beginning, create_of, begin_of, read_of, update_of, delete_of, insert_of, commit_of, tidy_of}
@@ -45,9 +43,6 @@ use Rattle.outcomes.specs.Query as calls
 use Rattle.outcomes.specs.Span.{listed_span, span_of}
 use Rattle.follow.specs.Heard.{heard_picked}
 use Rattle.demands.specs.Asks.{Ask, create, begin, query, span, read, update, delete, insert, commit, tidy, abort, comes_to, told}
-use Rattle.door.specs.Accepts.{accepts}
-use Rattle.lines.specs.declared.sessions.Left.{Left}
-use Rattle.lines.specs.Left.{leaves, left, left_at}
 use Rattle.lines.specs.Turn.{turn, byte_for, ask_with, scratch_after, made, turn_of, heard_from, Turned}
 
 -- ---- what a caller hears of a call other than a span is what is heard where its words and the program's scratch stand
@@ -139,162 +134,77 @@ pub part_length : (column : List ℕ) (wish : std.Option Request) (r : Request) 
 unfolding taken taken_by
 part_length column wish r values rows h w e = sym (length-take-le rows column (rw (w, e) at h))
 
--- ---- what is left of the sessions
-
--- none put: all stand as they did, or are free
-none_left : (ts : List Session) (l : Left) (z : Bool) → l.put ≡ false → l.anew ≡ z → leaves ts l ≡ cond z (replicate 16 freed) ts
-unfolding leaves
-none_left ts l z p n = ap₂ (λ (a b : Bool). cond a (replicate 16 freed) (cond b (set ts l.place l.session) ts)) n p
-
-pub all-stand : (ts : List Session) (l : Left) → l.put ≡ false → l.anew ≡ false → leaves ts l ≡ ts
-all-stand ts l p n = none_left ts l false p n
-
-all-freed : (ts : List Session) (z : Bool) → length ts ≡ 16 → cond z (replicate 16 freed) ts ≡ all_freed ts z
-unfolding all_freed freed_all
-all-freed ts true l =
-    sym (sets-eq (replicate 16 freed) ts 0 (omega (arith, l, length-replicate 16 freed))
-    ∙ ap (λ (us : List Session). replicate 16 freed ++ us) (drop_of_length-le ts {i = 16} (omega (arith, l))) ∙ append-nil _)
-all-freed ts false l = refl
-
--- a session at its place, or at none
-one_left : (ts : List Session) (n : ℕ) (x : Session) → leaves ts (left_at n x) ≡ put_at ts n x
-unfolding left_at put_at leaves
-one_left ts n x = go (ltb n 16)
-  where
-    go : (z : Bool) → leaves ts (cond z (left n x true) (left 0 x false)) ≡ cond z (set ts n x) ts
-    go true = refl
-    go false = refl
-
-module _ (n : ℕ) (x : Session) where
-  at_place : (z : Bool) → z ≡ ltb n 16 → cond z (left n x true) (left 0 x false) ≡ left_at n x
-  unfolding left_at
-  at_place z e = rw e
-
-  pub left_near : n < 16 → left n x true ≡ left_at n x
-  left_near h = at_place true (sym (lt-ltb n 16 h))
-
-  pub left_far : 16 ≤ n → left 0 x false ≡ left_at n x
-  left_far h = at_place false (sym (le-ltb n 16 h))
-
--- which answers are no refusal
-module _ (answer : core.Answer) where
-  accepts-as : (x : core.Answer) → answer ≡ x → accepts (said x) ≡ accepts (said answer)
-  accepts-as x e = ap (λ (y : core.Answer). accepts (said y)) (sym e)
-
-  pub accepts-no : (why : Refusal) → answer ≡ No why → false ≡ accepts (said answer)
-  unfolding accepts
-  accepts-no why e = accepts-as (No why) e
-
-  pub accepts-count : (n : ℕ) → answer ≡ Count n → true ≡ accepts (said answer)
-  unfolding accepts
-  accepts-count n e = accepts-as (Count n) e
-
-  pub accepts-at : (x : Stamp) (n : Row) → answer ≡ At x n → true ≡ accepts (said answer)
-  unfolding accepts
-  accepts-at x n e = accepts-as (At x n) e
-
-  pub accepts-read : (x : Standing) → answer ≡ Read x → true ≡ accepts (said answer)
-  unfolding accepts
-  accepts-read x e = accepts-as (Read x) e
-
-  pub accepts-listed : (n : ℕ) (due : Bool) (p : Place) → answer ≡ Listed n due p → true ≡ accepts (said answer)
-  unfolding accepts
-  accepts-listed n due p e = accepts-as (Listed n due p) e
-
 -- ---- the call of each word
 
-module _ (clock₀ slots₀ ws₀ heads₀ log₀ changes₀ clock slots ws heads log changes : List ℕ) (ts : List Session)
-    (s column : List ℕ) (wish : std.Option Request) (answer told : core.Answer) (l : Left) where
+module _ (clock₀ slots₀ ws₀ heads₀ log₀ changes₀ clock slots ws heads log changes : List ℕ) (ts us : List Session)
+    (s column : List ℕ) (wish : std.Option Request) (answer : std.Result core.Answer Refusal) (r : Request) where
   abbrev t : Tables
   t = tables clock₀ slots₀ ws₀ heads₀ log₀ changes₀ ts
 
-  abbrev after : List Session → Tables
-  after = tables clock slots ws heads log changes
+  abbrev after : Tables
+  after = tables clock slots ws heads log changes us
 
   abbrev Done : List ℕ → Type 0
-  Done s' = Turned t (after (leaves ts l)) s s' (asked wish column) (said answer)
+  Done s' = Turned t after s s' (asked wish column) (said answer)
 
   -- what the request asks for
-  by_word : (r q : Request) → wish ≡ Some r → r ≡ q → turn_of t s (asked wish column) ≡ turn_of t s (some (asked_by q column))
+  by_word : (q : Request) → wish ≡ Some r → r ≡ q → turn_of t s (asked wish column) ≡ turn_of t s (some (asked_by q column))
   unfolding asked
-  by_word r q w e = rw (w, e)
+  by_word q w e = rw (w, e)
 
-  -- a call that left these sessions
-  turns : (us : List Session) (bs : List (List ℕ)) (k : Ask) → outcome (after us) bs (said told) ≡ comes_to t k → answer ≡ told
-      → leaves ts l ≡ us → Picks t k → turn_of t s (asked wish column) ≡ made t s k → Done (scratch_after s bs)
-  turns us bs k e a f h c =
-      call-turns t (after (leaves ts l)) bs (said answer) s k (asked wish column)
-      (ap₂ (λ (vs : List Session) (b : core.Answer). outcome (after vs) bs (said b)) f a ∙ e) h c
+  -- the call that was made came to this
+  abbrev Came : List (List ℕ) → Outcome → Type 0
+  Came bs o = outcome after bs (said answer) ≡ o
 
-  pub create-turns : (r : Request) (values rows : ℕ) → length ts ≡ 16 → wish ≡ Some r → r ≡ request.Column values rows
-      → outcome (after (all_freed ts (accepts (said told)))) [] (said told) ≡ create_of t values (take rows column) → answer ≡ told
-      → l.put ≡ false → l.anew ≡ accepts (said told) → Done s
+  turns : (bs : List (List ℕ)) (k : Ask) → Came bs (comes_to t k) → Picks t k → turn_of t s (asked wish column) ≡ made t s k
+      → Done (scratch_after s bs)
+  turns bs k e h c = call-turns t after bs (said answer) s k (asked wish column) e h c
+
+  pub create-turns : (values rows : ℕ) → wish ≡ Some r → r ≡ request.Column values rows → Came [] (create_of t values (take rows column))
+      → Done s
   unfolding asked_by turn_of ask_with scratch_after
-  create-turns r values rows n w p e a f g =
-      turns (all_freed ts (accepts (said told))) [] (create values (take rows column)) e a (none_left ts l _ f g ∙ all-freed ts _ n)
-      refl (by_word r (request.Column values rows) w p ∙ ap (λ (col : List ℕ). made t s (create values col)) (bytes-again (take rows column)))
+  create-turns values rows w p e =
+      turns [] (create values (take rows column)) e refl
+      (by_word (request.Column values rows) w p ∙ ap (λ (col : List ℕ). made t s (create values col)) (bytes-again (take rows column)))
 
-  pub none-turns : wish ≡ None → said answer ≡ no 19 → l.put ≡ false → l.anew ≡ false
-      → Turned t (tables clock₀ slots₀ ws₀ heads₀ log₀ changes₀ (leaves ts l)) s s (asked wish column) (said answer)
-  unfolding asked turn_of heard_from
-  none-turns p a f g =
-      ap₂ (λ (us : List Session) (b : Said). turn (tables clock₀ slots₀ ws₀ heads₀ log₀ changes₀ us) s (heard_from ws₀ s b))
-      (all-stand ts l f g) a ∙ rw p
+  pub begin-turns : (n : ℕ) → wish ≡ Some r → r ≡ request.Begin n → Came [] (begin_of t n) → Done s
+  unfolding asked_by turn_of ask_with scratch_after
+  begin-turns n w p e = turns [] (begin n) e refl (by_word (request.Begin n) w p)
 
-  module _ (x : Session) (r : Request) (n : ℕ) where
-    -- a call about session n that came to this
-    abbrev About : List (List ℕ) → Outcome → Type 0
-    About bs o = outcome (after (put_at ts n x)) bs (said told) ≡ o
+  pub query-turns : (s' : List ℕ) (n v : ℕ) → wish ≡ Some r → r ≡ request.Query n v → Came (s' ∷ []) (query_of t s n v 8) → Done s'
+  unfolding asked_by turn_of ask_with scratch_after usual_threshold
+  query-turns s' n v w p e = turns (s' ∷ []) (query s n v 8) e refl (by_word (request.Query n v) w p)
 
-    one : (bs : List (List ℕ)) (k : Ask) → About bs (comes_to t k) → answer ≡ told → l ≡ left_at n x
-        → Picks t k → turn_of t s (asked wish column) ≡ made t s k → Done (scratch_after s bs)
-    one bs k e a f h c = turns (put_at ts n x) bs k e a (ap (leaves ts) f ∙ one_left ts n x) h c
+  pub read-turns : (n m : ℕ) → wish ≡ Some r → r ≡ request.Read n m → Came [] (read_of t n m) → Done s
+  unfolding asked_by turn_of ask_with scratch_after
+  read-turns n m w p e = turns [] (read n m) e refl (by_word (request.Read n m) w p)
 
-    pub query-turns : (s' : List ℕ) (v : ℕ) → wish ≡ Some r → r ≡ request.Query n v → About (s' ∷ []) (query_of t s n v 8) → answer ≡ told
-        → l ≡ left_at n x → Done s'
-    unfolding asked_by turn_of ask_with scratch_after usual_threshold
-    query-turns s' v w p e a f = one (s' ∷ []) (query s n v 8) e a f refl (by_word r (request.Query n v) w p)
+  pub update-turns : (n m v : ℕ) → wish ≡ Some r → r ≡ request.Update n m v → Came [] (update_of t n m v) → Done s
+  unfolding asked_by turn_of ask_with scratch_after
+  update-turns n m v w p e = turns [] (update n m v) e refl (by_word (request.Update n m v) w p)
 
-    pub begin-turns : wish ≡ Some r → r ≡ request.Begin n → About [] (begin_of t n) → answer ≡ told
-        → l ≡ left_at n x → Done s
-    unfolding asked_by turn_of ask_with scratch_after
-    begin-turns w p e a f = one [] (begin n) e a f refl (by_word r (request.Begin n) w p)
+  pub delete-turns : (n m : ℕ) → wish ≡ Some r → r ≡ request.Delete n m → Came [] (delete_of t n m) → Done s
+  unfolding asked_by turn_of ask_with scratch_after
+  delete-turns n m w p e = turns [] (delete n m) e refl (by_word (request.Delete n m) w p)
 
-    pub read-turns : (m : ℕ) → wish ≡ Some r → r ≡ request.Read n m → About [] (read_of t n m) → answer ≡ told
-        → l ≡ left_at n x → Done s
-    unfolding asked_by turn_of ask_with scratch_after
-    read-turns m w p e a f = one [] (read n m) e a f refl (by_word r (request.Read n m) w p)
+  pub insert-turns : (n v : ℕ) → wish ≡ Some r → r ≡ request.Insert n v → Came [] (insert_of t n v) → Done s
+  unfolding asked_by turn_of ask_with scratch_after
+  insert-turns n v w p e = turns [] (insert n v) e refl (by_word (request.Insert n v) w p)
 
-    pub update-turns : (m v : ℕ) → wish ≡ Some r → r ≡ request.Update n m v → About [] (update_of t n m v) → answer ≡ told
-        → l ≡ left_at n x → Done s
-    unfolding asked_by turn_of ask_with scratch_after
-    update-turns m v w p e a f = one [] (update n m v) e a f refl (by_word r (request.Update n m v) w p)
+  pub commit-turns : (n : ℕ) → wish ≡ Some r → r ≡ request.Commit n → Came [] (commit_of t n) → Done s
+  unfolding asked_by turn_of ask_with scratch_after
+  commit-turns n w p e = turns [] (commit n) e refl (by_word (request.Commit n) w p)
 
-    pub delete-turns : (m : ℕ) → wish ≡ Some r → r ≡ request.Delete n m → About [] (delete_of t n m) → answer ≡ told
-        → l ≡ left_at n x → Done s
-    unfolding asked_by turn_of ask_with scratch_after
-    delete-turns m w p e a f = one [] (delete n m) e a f refl (by_word r (request.Delete n m) w p)
+  pub tidy-turns : (n v : ℕ) → wish ≡ Some r → r ≡ request.Tidy n v → Came [] (tidy_of t n v) → Done s
+  unfolding asked_by turn_of ask_with scratch_after
+  tidy-turns n v w p e = turns [] (tidy n v) e refl (by_word (request.Tidy n v) w p)
 
-    pub insert-turns : (v : ℕ) → wish ≡ Some r → r ≡ request.Insert n v → About [] (insert_of t n v) → answer ≡ told
-        → l ≡ left_at n x → Done s
-    unfolding asked_by turn_of ask_with scratch_after
-    insert-turns v w p e a f = one [] (insert n v) e a f refl (by_word r (request.Insert n v) w p)
+  pub abort-turns : (n : ℕ) → wish ≡ Some r → r ≡ request.Abort n → Came [] (abort_of t n) → Done s
+  unfolding asked_by turn_of ask_with scratch_after
+  abort-turns n w p e = turns [] (abort n) e refl (by_word (request.Abort n) w p)
 
-    pub commit-turns : wish ≡ Some r → r ≡ request.Commit n → About [] (commit_of t n) → answer ≡ told
-        → l ≡ left_at n x → Done s
-    unfolding asked_by turn_of ask_with scratch_after
-    commit-turns w p e a f = one [] (commit n) e a f refl (by_word r (request.Commit n) w p)
-
-    pub tidy-turns : (v : ℕ) → wish ≡ Some r → r ≡ request.Tidy n v → About [] (tidy_of t n v) → answer ≡ told
-        → l ≡ left_at n x → Done s
-    unfolding asked_by turn_of ask_with scratch_after
-    tidy-turns v w p e a f = one [] (tidy n v) e a f refl (by_word r (request.Tidy n v) w p)
-
-    pub abort-turns : wish ≡ Some r → r ≡ request.Abort n → About [] (abort_of t n) → answer ≡ told
-        → l ≡ left_at n x → Done s
-    unfolding asked_by turn_of ask_with scratch_after
-    abort-turns w p e a f = one [] (abort n) e a f refl (by_word r (request.Abort n) w p)
-
--- sixteen free sessions
-pub free-each : (x : Session) → x ≡ freed → replicate 16 x ≡ replicate 16 freed
-free-each x e = ap (replicate 16) e
+-- a line that was not read
+pub none-turns : (t : Tables) (s column : List ℕ) (wish : std.Option Request) → wish ≡ None
+    → Turned t t s s (asked wish column) (said (std.Err Unreadable))
+unfolding asked turn_of heard_from
+none-turns t s column wish p = rw p

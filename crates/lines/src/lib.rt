@@ -3,9 +3,6 @@
 
 mod one_line;
 mod printing;
-mod sessions;
 mod turns;
 
-pub use door::Sessions;
 pub use one_line::line;
-pub use sessions::{Left, Lined, all_free, nothing};

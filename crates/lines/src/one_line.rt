@@ -1,16 +1,14 @@
 // A line answered.
-ghost use Rattle.std.specs.Prelude.{◌≡◌, ◌<◌, ◌≤◌};
+ghost use Rattle.std.specs.Prelude.{◌≡◌, ◌≤◌};
 ghost use Rattle.tables.specs.Cells.{tables};
-ghost use Rattle.lines.specs.Left.{leaves};
 ghost use Rattle.lines.specs.Line.{line_outcome, line_of};
 
-use crate::sessions::{Lined, nothing};
 use crate::{printing, turns};
-use door::Sessions;
+use tables::Session;
 
 // A line, without its newline, is answered: the tables and the scratch are changed, and the answer with a newline stands at
-// the front of `out`. A column's values go through `column`. Where one of the two buffers is too short for some line
-// (10,276 and 4,096 bytes), nothing is done, and the answer has no byte. What is left of the sessions is handed back.
+// the front of `out`; how many bytes it has. A column's values go through `column`. Where one of the two buffers is too short for some
+// line (10,276 and 4,096 bytes), nothing is done, and the answer has no byte.
 pub fn line(
     clock: &mut [u32],
     slots: &mut [u32],
@@ -18,35 +16,29 @@ pub fn line(
     heads: &mut [u32],
     log: &mut [u32],
     changes: &mut [u32],
-    all: Sessions,
+    sessions: &mut [Session],
     scratch: &mut [u64],
     column: &mut [u8],
     bytes: &[u8],
     out: &mut [u8],
-) -> Lined
-    ensures len_after { line_outcome (tables clock.new slots.new words.new heads.new log.new
-        changes.new (leaves all.at result.left))
-        scratch.new column.new out.new result.len ≡ line_of
+) -> usize
+    ensures line_value { line_outcome (tables clock.new slots.new words.new heads.new log.new
+        changes.new sessions.new)
+        scratch.new column.new out.new result ≡ line_of
         (tables clock.old slots.old words.old heads.old log.old
-        changes.old all.at)
+        changes.old sessions.old)
         scratch.old column.old out.old bytes.now }
-    ensures len_bound { (result.len ≤ 10276) × (result.left.place < 16) }
+    ensures len_bound { result ≤ 10276 }
 {
     if column.len() < 4096 {
-        return nothing();
+        return 0;
     }
     if out.len() < 10276 {
-        return nothing();
+        return 0;
     }
     let wish = text::request(bytes, column);
-    let d = turns::turn(
-        clock, slots, words, heads, log, changes, all, scratch, column, wish,
+    let answer = turns::turn(
+        clock, slots, words, heads, log, changes, sessions, scratch, column, wish,
     );
-    let answer = d.answer;
-    let left = d.left;
-    let len = printing::put_line(out, answer, words, scratch);
-    Lined {
-        len: len,
-        left: left,
-    }
+    printing::put_line(out, answer, words, scratch)
 }

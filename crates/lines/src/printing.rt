@@ -7,32 +7,37 @@ ghost use Rattle.outcomes.specs.Said.{said};
 ghost use Rattle.lines.specs.Line.{PutLine};
 ghost use Rattle.lines.specs.Turn.{heard_from};
 
-use history::Standing;
 use outcomes::Answer;
+use tables::{Refusal, Value};
 
 // What read answers.
-fn put_standing(out: &mut [u8], found: Standing) -> usize
+fn put_standing(out: &mut [u8], found: Option<Value>) -> usize
     requires { 13 ≤ length out.old }
     ensures { Answered out.old (value (standing_of found)) out.new result 13 }
 {
     match found {
-        Standing::Holds(v) => writing::put_ok_one(out, v.0),
-        Standing::Absent => writing::put_absent(out),
+        Some(v) => writing::put_ok_one(out, v.0),
+        None => writing::put_absent(out),
     }
 }
 
 // An answer; a query's rows are those of the words at its place.
-fn put_answer<'a>(out: &mut [u8], answer: Answer, words: &'a [u64], scratch: &'a [u64]) -> usize
+fn put_answer<'a>(
+    out: &mut [u8],
+    answer: Result<Answer, Refusal>,
+    words: &'a [u64],
+    scratch: &'a [u64],
+) -> usize
     requires { 10275 ≤ length out.old }
     ensures { Answered out.old (heard_from words.now scratch.now (said answer))
         out.new result 10275 }
 {
     match answer {
-        Answer::No(why) => writing::put_no(out, tables::number(why)),
-        Answer::Count(n) => writing::put_ok_one(out, n),
-        Answer::At(s, n) => writing::put_ok_two(out, s.0, n.0),
-        Answer::Read(found) => put_standing(out, found),
-        Answer::Listed(flips, due, place) => {
+        Err(why) => writing::put_no(out, u32::from(why)),
+        Ok(Answer::Count(n)) => writing::put_ok_one(out, n),
+        Ok(Answer::At(s, n)) => writing::put_ok_two(out, s.0, n.0),
+        Ok(Answer::Read(found)) => put_standing(out, found),
+        Ok(Answer::Listed(flips, due, place)) => {
             let vector = reading::picked(words, scratch, place);
             writing::put_queried(out, flips, due, vector)
         }
@@ -40,7 +45,12 @@ fn put_answer<'a>(out: &mut [u8], answer: Answer, words: &'a [u64], scratch: &'a
 }
 
 // An answer and a newline.
-pub fn put_line<'a>(out: &mut [u8], answer: Answer, words: &'a [u64], scratch: &'a [u64]) -> usize
+pub fn put_line<'a>(
+    out: &mut [u8],
+    answer: Result<Answer, Refusal>,
+    words: &'a [u64],
+    scratch: &'a [u64],
+) -> usize
     requires { 10276 ≤ length out.old }
     ensures { PutLine out.old (heard_from words.now scratch.now (said answer))
         out.new result }

@@ -1,18 +1,17 @@
 -- `one_line::line` meets its contract.
-use native.Mathlib.Omega.{arith}
-use borrow.Author.Rules.{rules}
-use Rattle.lines.proofs.LineLaws.{nothing-column, nothing-out, line-done}
+use Rattle.std.proofs.Common.{arith}
+use Rattle.lines.proofs.LineLaws.{short-column, short-out, line-done}
 use Rattle.lines.proofs.one_line.line.Goals as goal
 
 pub returns : goal.returns
 returns c =
-    let p = c.put_line-len.ensures in record {
-      len_after = line-done _ _ _ _ _ _ _ _ _ _ _ _ (omega arith) (omega arith) c.request-wish.ensures c.turn-d.ensures.turned p;
-      len_bound = (p.short, c.turn-d.ensures.place_bound);
+    let p = c.put_line.ensures in record {
+      line_value = line-done _ _ _ _ _ _ _ _ _ _ _ _ (omega arith) (omega arith) c.request-wish.ensures c.turn-answer.ensures p;
+      len_bound = p.short;
     }
 
 pub returns-then-column-lt4096 : goal.returns-then-column-lt4096
-returns-then-column-lt4096 c = record { len_after = search nothing-column; len_bound = search rules }
+returns-then-column-lt4096 c = record { line_value = search short-column; len_bound = omega arith }
 
 pub returns-then-out-lt10276 : goal.returns-then-out-lt10276
-returns-then-out-lt10276 c = record { len_after = search nothing-out; len_bound = search rules }
+returns-then-out-lt10276 c = record { line_value = search short-out; len_bound = omega arith }

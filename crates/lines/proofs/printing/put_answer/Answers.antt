@@ -5,17 +5,17 @@ use Rattle.lines.proofs.printing.put_answer.Goals as goal
 pub put_queried-requires : goal.put_queried-requires
 put_queried-requires c = (search queried-few, search queried-fits)
 
-pub returns-in-No : goal.returns-in-No
-returns-in-No c = search put_refused
+pub returns-in-Err : goal.returns-in-Err
+returns-in-Err c = search put_refused
 
-pub returns-in-Count : goal.returns-in-Count
-returns-in-Count c = search put_count
+pub returns-in-Ok-Count : goal.returns-in-Ok-Count
+returns-in-Ok-Count c = search put_count
 
-pub returns-in-At : goal.returns-in-At
-returns-in-At c = search put-at
+pub returns-in-Ok-At : goal.returns-in-Ok-At
+returns-in-Ok-At c = search put-at
 
-pub returns-in-Read : goal.returns-in-Read
-returns-in-Read c = search put-read
+pub returns-in-Ok-Read : goal.returns-in-Ok-Read
+returns-in-Ok-Read c = search put-read
 
-pub returns-in-Listed : goal.returns-in-Listed
-returns-in-Listed c = search put-listed
+pub returns-in-Ok-Listed : goal.returns-in-Ok-Listed
+returns-in-Ok-Listed c = search put-listed

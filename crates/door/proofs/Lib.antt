@@ -1,2 +1,0 @@
--- What the ten calls leave of the session table.
-pub mod OneSeat
