@@ -1,4 +1,5 @@
-// What an accepted commit writes: the changes of the listed rows and of the inserts, the record, the clock.
+// What an accepted commit writes: the changes of the listed rows and of the inserts, the record, the clock. Where one of the six tables
+// is written while the others are read, they are passed apart, and not as one view.
 ghost use Rattle.std.specs.Prelude.{◌≡◌, ◌+◌, ◌<◌, ◌≤◌, length, get_or};
 ghost use Rattle.std.proofs.Math.Option.{some};
 ghost use Rattle.rules.specs.Lists as rules;
@@ -14,6 +15,7 @@ use outcomes::Answer;
 use tables::{Kind, NumberTables, Row, Session, Stamp, Value};
 
 // A flip set with what a row holds toggled, if it holds a value.
+#[tactic(auto, unfolding(crate::specs::Commit::toggled_in))]
 pub fn toggled(set: u32, held: Option<Value>) -> u32
     ensures { result ≡ toggled_in set (standing_of held) }
 {
@@ -33,7 +35,10 @@ fn new_set(t: NumberTables, start: Stamp, row: Row, to: u8) -> u32
     let c = tables::clock_of(t.clock);
     let last = history::last_naming(t.changes, tables::end_at(t.log, start), row);
     let held = history::read_after(t, c.values, start, row, last);
-    toggled(toggled(history::set_of(last), held), outcomes::target_of(to))
+    toggled(
+        toggled(history::set_of(last), held),
+        outcomes::target_of(to),
+    )
 }
 
 // The change of listed row i is written at p.
