@@ -7,7 +7,7 @@ ghost use Rattle.bits.specs.All.{all_below};
 ghost use Rattle.tables.specs.Damage.{all_in, clock_fits, records_fit, changes_fit};
 ghost use Rattle.change_damage.specs.Parts.{Gathered, row_below, record_rows_fit, Alike, Rising};
 
-use tables::{MAX_ROWS, Row};
+use tables::{MAX_CHANGES, MAX_ROWS, Row};
 
 // The n cells from `from` on, as one set: their first half and their second at once.
 fn gathered(cells: &[u32], from: usize, n: usize) -> u32
@@ -104,6 +104,6 @@ pub fn changes_fit(clock: &[u32], log: &[u32], changes: &[u32]) -> bool
 {
     let c = tables::clock_of(clock);
     let n = tables::changes_used(clock) as usize;
-    bits::all_below(gathered(changes, 2048, n), c.values.0)
+    bits::all_below(gathered(changes, MAX_CHANGES as usize, n), c.values.0)
         && each_rows_fit(log, changes, c.stamp.0 as usize)
 }
