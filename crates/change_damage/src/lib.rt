@@ -44,7 +44,11 @@ fn rows_below(changes: &[u32], from: usize, to: usize, rows: Row) -> bool
     if rows.0 == MAX_ROWS {
         return gathered(changes, from, to - from) < MAX_ROWS;
     }
-    if to - from < 8 || from < 8 {
+    // Two tests: as one with `||` the check of grown tables takes 2 % more instructions.
+    if to - from < 8 {
+        return rows_below_each(changes, from, to, rows);
+    }
+    if from < 8 {
         return rows_below_each(changes, from, to, rows);
     }
     rows_below_each(changes, to - (to - from + 7) / 8 * 8, to, rows)
