@@ -1,11 +1,9 @@
 -- The search for a clash: the later changes as one stretch; and step by step the records from one on, and in each the entries from one on.
 use mathlib.Core.Path.{◌≡◌, refl, sym, ap, ap₂, ◌∙◌}
-use mathlib.Core.Bool.{Bool, true, false, not, ◌||◌, or_assoc, or-false}
+use mathlib.Core.Bool.{Bool, true, false, ◌||◌, or_assoc, or-false}
 use mathlib.Core.List.{List}
 use Prim.Native.Nat.{ℕ, suc, ◌+◌, ◌≤◌, ◌<◌}
 use native.Mathlib.Numerals.{add-one}
-use native.Mathlib.Omega.{arith}
-use borrow.Author.Tests.{not-true}
 use lib.Dec.{eqb}
 use lib.ListN.{get_or}
 use Rattle.bits.specs.Tab.{tab}
@@ -95,11 +93,6 @@ module _ (log changes : List ℕ) (x : Session) where
       records-on h =
           some-on (named x) (record_at log changes) k last w e _ l refl (sym (some-ended (hits cs) (entry_at x) i n _ s h))
 
-      -- one is named
-      pub records-met : (b : Bool) → i < n → b ≡ hits cs (entry_at x i) → b ≡ true → true ≡ w
-      records-met b h q z =
-          some-met (named x) (record_at log changes) k last w e _ l refl (sym (some-met (hits cs) (entry_at x) i n _ s b h q z))
-
   module _ (last : ℕ) (s : Searched log changes x last) where
     abbrev clashes : Bool
     clashes = conflicts (tab (record_at log changes) last) x.start.0 (entries x)
@@ -109,13 +102,6 @@ module _ (log changes : List ℕ) (x : Session) where
     records-start =
         conflict-by-records (tab (record_at log changes) last) x.start.0 (entries x)
         ∙ ap (some_of (named x)) (drop-tab (record_at log changes) x.start.0 last s.start-old)
-
-    -- an end that is low: at record k, and at the one after
-    pub end_low : (k to : ℕ) → k ≤ last → to ≡ end_at log k → to ≤ 2048
-    end_low k to l e = omega (arith, s.ends_low k l)
-
-    pub next_low : (k to : ℕ) → k < last → to ≡ end_at log (k + 1) → to ≤ 2048
-    next_low k to l e = end_low (k + 1) to (omega arith) e
 
     -- ---- the search at one go
 
@@ -127,7 +113,3 @@ module _ (log changes : List ℕ) (x : Session) where
         (conflict-by-entries (tab (record_at log changes) last) x.start.0 (entries x)
         ∙ ap₂ (λ (es : List Entry) (cs : List Change). hits_list es cs) (listed x n o)
         (s.one-stretch ∙ ap₂ (stretch (change_at changes)) (sym p) (sym q)))
-
--- no change names a listed row
-pub none-clash : (w b : Bool) → b ≡ w → not b ≡ true → false ≡ w
-none-clash w b e h = sym (not-true b h) ∙ e
