@@ -19,10 +19,7 @@ pub struct Last {
 pub fn set_of(last: Option<Last>) -> u32
     ensures { result ≡ set_of last }
 {
-    match last {
-        Some(l) => l.set,
-        None => 0,
-    }
+    last.map_or(0, |l| l.set)
 }
 
 // Whether one of the 64 changes from `from` on names the row.
