@@ -9,10 +9,12 @@ use Prim.Native.Nat.{ℕ, zero, suc, ◌+◌, ◌-◌, ◌≤◌, ◌<◌}
 use native.Mathlib.Omega.{arith}
 use native.Mathlib.Numerals.{add-one}
 use borrow.Author.Tests.{eq-eqb, ne_eqb, lt-ltb, le-ltb, ltb-true}
-use Rattle.std.specs.Prelude.{Some, None}
+use Rattle.std.specs.Prelude as kit
+use Rattle.std.specs.Prelude.{Some, None, MatchOption}
 use lib.Dec.{eqb, ltb}
 use lib.ListN.{replicate, length, take, drop, get_or}
-use Rattle.std.proofs.lemmas.List.{get_or-take, get_or-drop, length-take}
+use Rattle.std.specs.List.{list_any, range_with_len}
+use Rattle.std.proofs.lemmas.List.{length-take-le, get_or-take, get_or-drop, length-take}
 use Rattle.bits.proofs.Cases.{lt-cases}
 use Rattle.bits.specs.Choice.{or_else}
 use Rattle.bits.specs.Bit.{bit}
@@ -28,8 +30,8 @@ use Rattle.rules.proofs.Small.{or_parts}
 use Rattle.tables.specs.Cells.{change_row, change_set}
 use Rattle.tables.specs.Meaning.{change_at}
 use Rattle.tables.specs.Stretch.{stretch}
-use Rattle.tables.proofs.Stretch.{stretch-none, stretch-step, stretch-more, stretch-join}
-use Rattle.history.specs.Last.{place_of, set_of, change_before, last_place, last_set, last_of}
+use Rattle.tables.proofs.Stretch.{stretch-none, stretch-front, stretch-step, stretch-more}
+use Rattle.history.specs.Last.{one_past, place_of, set_of, change_before, last_place, last_set, last_of}
 use Rattle.history.specs.Flips.{flipped_in, marked, RowsLow}
 
 module _ (changes : List ℕ) (row : ℕ) where
@@ -50,9 +52,6 @@ module _ (changes : List ℕ) (row : ℕ) where
       let x = change_at changes b in
       rw (stretch-more (change_at changes) a b h, names-append (cut a b) (x ∷ []) row, or-false (eqb (change_row changes b) row))
 
-  names-join : (a b c : ℕ) → a ≤ b → b ≤ c → in_cut a c ≡ in_cut a b || in_cut b c
-  names-join a b c h l = rw (← (stretch-join (change_at changes) a b c h l)) (names-append (cut a b) (cut b c) row)
-
   -- what a fold over a block of 64 changes meets
   abbrev block : ℕ → List ℕ
   block a = take (a + 64 - a) (drop a changes)
@@ -65,19 +64,12 @@ module _ (changes : List ℕ) (row : ℕ) where
       let y : a + (i + 1) ≡ a + i + 1 = omega arith in
       rw (z, y, e, names_more a (a + i) (omega arith))
 
-  -- what the search for a change that names the row meets
-  module _ (from to p : ℕ) (e : false ≡ in_cut from p) (h : from ≤ p) where
-    pub named_here : p < to → change_row changes p ≡ row → true ≡ in_cut from to
-    named_here l q =
-        rw (names-join from (p + 1) to (omega arith) (omega arith), names_more from p h, ← e, eq-eqb (change_row changes p) row q)
-
-    pub named_past : (change_row changes p ≡ row → ⊥) → false ≡ in_cut from (p + 1)
-    named_past n = rw (names_more from p h, ← e, ne_eqb (change_row changes p) row n)
-
-    pub named_none : to ≤ p → false ≡ in_cut from to
-    named_none l =
-        ⊎_elim (λ (k : from < to). sym (or_parts (in_cut from to) (in_cut to p) (sym (names-join from to p (omega arith) l) ∙ sym e)).0)
-        (names-none from to) (lt-cases from to)
+  -- the places from a on that a search goes through
+  pub named-any : (n a b : ℕ) → b - a ≡ n → list_any (λ p. eqb (change_row changes p) row) (range_with_len a n) ≡ in_cut a b
+  named-any zero a b e = names-none a b (omega arith)
+  named-any (suc n) a b e =
+      rw (stretch-front (change_at changes) a b (omega arith), ← (add-one a))
+      (ap (λ (t : Bool). eqb (change_row changes a) row || t) (named-any n (a + 1) b (omega arith)))
 
   -- ---- the place of the last one
 
@@ -109,18 +101,34 @@ module _ (changes : List ℕ) (row : ℕ) where
         let back : e ≡ e - 64 + 64 = omega arith in
         i ∙ ap (last_place changes row) back ∙ place-skip (e - 64) 64 (sym q ∙ z)
 
-    pub place_none : e ≤ 0 → 0 ≡ w
-    unfolding last_place
-    place_none h = let z : e ≡ 0 = omega arith in sym (i ∙ ap (last_place changes row) z)
+  -- what the search backward through the first e changes finds
+  place-found : (e i : ℕ) → i < e → change_row changes i ≡ row → ((k : ℕ) → i < k → k < e → change_row changes k ≡ row → ⊥)
+      → i + 1 ≡ last_place changes row e
+  unfolding last_place
+  place-found zero i l q n = absurd (omega arith)
+  place-found (suc e) i l q n = go (lt-cases i e) (λ h. place-found e i h q (λ k x y. n k x (omega arith)))
+    where
+      go : (i < e) ⊎ (e ≤ i) → (i < e → i + 1 ≡ last_place changes row e) → i + 1 ≡ last_place changes row (suc e)
+      go (inl h) f = rw (ne_eqb (change_row changes e) row (n e h (omega arith))) (f h)
+      go (inr h) f = let z : i ≡ e = omega arith in rw (← z, eq-eqb (change_row changes i) row q, add-one i)
 
-    one-back : 0 < e → w ≡ cond (eqb (change_row changes (e - 1)) row) (e - 1 + 1) (last_place changes row (e - 1))
-    one-back h = let back : e ≡ e - 1 + 1 = omega arith in i ∙ ap (last_place changes row) back ∙ place-step (e - 1)
+  place-missing : (e : ℕ) → ((k : ℕ) → k < e → change_row changes k ≡ row → ⊥) → 0 ≡ last_place changes row e
+  unfolding last_place
+  place-missing zero n = refl
+  place-missing (suc e) n =
+      rw (ne_eqb (change_row changes e) row (n e (omega arith))) (place-missing e (λ k x. n k (omega arith)))
 
-    pub place_here : 0 < e → change_row changes (e - 1) ≡ row → e - 1 + 1 ≡ w
-    place_here h q = sym (one-back h ∙ rw (eq-eqb (change_row changes (e - 1)) row q))
-
-    pub place-past : 0 < e → (change_row changes (e - 1) ≡ row → ⊥) → w ≡ last_place changes row (e - 1)
-    place-past h n = one-back h ∙ rw (ne_eqb (change_row changes (e - 1)) row n)
+  pub place-is : (e : ℕ) (r : kit.Option ℕ)
+      → MatchOption r ((k : ℕ) → k < length (take e changes) → get_or (take e changes) k 0 ≡ row → ⊥)
+      (λ i. (i < length (take e changes)) × (get_or (take e changes) i 0 ≡ row)
+      × ((k : ℕ) → i < k → k < length (take e changes) → get_or (take e changes) k 0 ≡ row → ⊥))
+      → e ≤ length changes → one_past r ≡ last_place changes row e
+  place-is e None h l =
+      place-missing e (λ k x q. h k (omega (arith, length-take-le e changes l)) (get_or-take e changes k 0 x ∙ q))
+  place-is e (Some i) h l =
+      let x : i < e = omega (arith, h.0, length-take-le e changes l) in
+      place-found e i x (sym (get_or-take e changes i 0 x) ∙ h.1)
+      (λ k y z q. h.2 k y (omega (arith, length-take-le e changes l)) (get_or-take e changes k 0 z ∙ q))
 
   -- ---- its flip set
 

@@ -29,7 +29,7 @@ fn block_names(changes: &[u32], from: usize, row: u32) -> bool
 {
     let mut found = false;
     for c in &changes[from..from + 64] {
-        found = found | (*c == row);
+        found |= *c == row;
     }
     found
 }
@@ -55,12 +55,7 @@ fn last_place(changes: &[u32], to: usize, row: u32) -> Option<usize>
     ensures { one_past result ≡ last_place changes.now row to }
 {
     let end = blocks_before(changes, to, row);
-    for p in (0..end).rev() {
-        if changes[p] == row {
-            return Some(p);
-        }
-    }
-    None
+    changes[..end].iter().rposition(|c| *c == row)
 }
 
 // The last of the first `to` changes that names the row.
@@ -80,10 +75,5 @@ pub fn named(changes: &[u32], from: usize, to: usize, row: Row) -> bool
     requires { (to ≤ 2048) × (4096 ≤ length changes.now) }
     ensures { result ≡ names (stretch (change_at changes.now) from to) row.0 }
 {
-    for p in from..to {
-        if changes[p] == row.0 {
-            return true;
-        }
-    }
-    false
+    (from..to).any(|p| changes[p] == row.0)
 }
