@@ -18,7 +18,7 @@ fn row_named(changes: &[u32], from: usize, to: usize, row: u32) -> bool
 {
     let mut any = false;
     for p in from..to {
-        any = any | (changes[p] == row);
+        any |= changes[p] == row;
     }
     any
 }
