@@ -13,7 +13,6 @@ use Rattle.std.specs.Prelude as kit
 use Rattle.std.specs.Prelude.{Some, None, MatchOption}
 use lib.Dec.{eqb, ltb}
 use lib.ListN.{replicate, length, take, drop, get_or}
-use Rattle.std.specs.List.{list_any, range_with_len}
 use Rattle.std.proofs.lemmas.List.{length-take-le, get_or-take, get_or-drop, length-take}
 use Rattle.bits.proofs.Cases.{lt-cases}
 use Rattle.bits.specs.Choice.{or_else}
@@ -30,7 +29,7 @@ use Rattle.rules.proofs.Small.{or_parts}
 use Rattle.tables.specs.Cells.{change_row, change_set}
 use Rattle.tables.specs.Meaning.{change_at}
 use Rattle.tables.specs.Stretch.{stretch}
-use Rattle.tables.proofs.Stretch.{stretch-none, stretch-front, stretch-step, stretch-more}
+use Rattle.tables.proofs.Stretch.{stretch-none, stretch-step, stretch-more, stretch-join}
 use Rattle.history.specs.Last.{one_past, place_of, set_of, change_before, last_place, last_set, last_of}
 use Rattle.history.specs.Flips.{flipped_in, marked, RowsLow}
 
@@ -52,6 +51,9 @@ module _ (changes : List ℕ) (row : ℕ) where
       let x = change_at changes b in
       rw (stretch-more (change_at changes) a b h, names-append (cut a b) (x ∷ []) row, or-false (eqb (change_row changes b) row))
 
+  names-join : (a b c : ℕ) → a ≤ b → b ≤ c → in_cut a c ≡ in_cut a b || in_cut b c
+  names-join a b c h l = rw (← (stretch-join (change_at changes) a b c h l)) (names-append (cut a b) (cut b c) row)
+
   -- what a fold over a block of 64 changes meets
   abbrev block : ℕ → List ℕ
   block a = take (a + 64 - a) (drop a changes)
@@ -64,12 +66,19 @@ module _ (changes : List ℕ) (row : ℕ) where
       let y : a + (i + 1) ≡ a + i + 1 = omega arith in
       rw (z, y, e, names_more a (a + i) (omega arith))
 
-  -- the places from a on that a search goes through
-  pub named-any : (n a b : ℕ) → b - a ≡ n → list_any (λ p. eqb (change_row changes p) row) (range_with_len a n) ≡ in_cut a b
-  named-any zero a b e = names-none a b (omega arith)
-  named-any (suc n) a b e =
-      rw (stretch-front (change_at changes) a b (omega arith), ← (add-one a))
-      (ap (λ (t : Bool). eqb (change_row changes a) row || t) (named-any n (a + 1) b (omega arith)))
+  -- what the search for a change that names the row meets
+  module _ (from to p : ℕ) (e : false ≡ in_cut from p) (h : from ≤ p) where
+    pub named_here : p < to → change_row changes p ≡ row → true ≡ in_cut from to
+    named_here l q =
+        rw (names-join from (p + 1) to (omega arith) (omega arith), names_more from p h, ← e, eq-eqb (change_row changes p) row q)
+
+    pub named_past : (change_row changes p ≡ row → ⊥) → false ≡ in_cut from (p + 1)
+    named_past n = rw (names_more from p h, ← e, ne_eqb (change_row changes p) row n)
+
+    pub named_none : to ≤ p → false ≡ in_cut from to
+    named_none l =
+        ⊎_elim (λ (k : from < to). sym (or_parts (in_cut from to) (in_cut to p) (sym (names-join from to p (omega arith) l) ∙ sym e)).0)
+        (names-none from to) (lt-cases from to)
 
   -- ---- the place of the last one
 

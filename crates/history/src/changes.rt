@@ -70,10 +70,15 @@ pub fn last_naming(changes: &[u32], to: usize, row: Row) -> Option<Last>
     })
 }
 
-// Whether one of the changes from `from` to `to` names the row.
+// Whether one of the changes from `from` to `to` names the row. A loop: `any` over the places took twice as long.
 pub fn named(changes: &[u32], from: usize, to: usize, row: Row) -> bool
     requires { (to ≤ 2048) × (4096 ≤ length changes.now) }
     ensures { result ≡ names (stretch (change_at changes.now) from to) row.0 }
 {
-    (from..to).any(|p| changes[p] == row.0)
+    for p in from..to {
+        if changes[p] == row.0 {
+            return true;
+        }
+    }
+    false
 }

@@ -1,13 +1,16 @@
--- `history::named` meets its contract: one of the places from `from` to `to` has the row.
-use Rattle.std.proofs.Common.{rules, ◌∙◌, refl, eqb}
-use Rattle.std.proofs.lemmas.Iterator.{YieldsList-from_range}
-use Rattle.std.proofs.lemmas.Iterator.Search.{any_from_yields_List}
-use Rattle.tables.specs.Cells.{change_row}
-use Rattle.history.proofs.LastLaws.{named-any}
+-- The first change that names the row ends the search; where none does, it ends with the changes.
+use borrow.Author.Rules.{rules}
+use Rattle.history.proofs.LastLaws.{names-none, named_here, named_past, named_none}
 use Rattle.history.proofs.changes.named.Goals as goal
 
+pub loop-p-init : goal.loop-p-init
+loop-p-init c = search (names-none, rules)
+
+pub returns-then-changes-p : goal.returns-then-changes-p
+returns-then-changes-p c = search named_here
+
+pub loop-p-preserved : goal.loop-p-preserved
+loop-p-preserved c = search named_past
+
 pub returns : goal.returns
-returns c =
-    any_from_yields_List (λ p. eqb (change_row c.args.changes.now p) c.args.row.0) _ _ _ c.any.ensures.ran
-    (YieldsList-from_range c.args.from c.args.to _ (cc) refl) (λ x b q h. search rules)
-    ∙ named-any _ _ _ _ _ refl
+returns c = search named_none
