@@ -2,7 +2,7 @@
 use mathlib.Core.Path.{◌≡◌, refl, sym, ◌∙◌}
 use mathlib.Core.List.{List, [], ◌∷◌}
 use mathlib.Core.Bool.{Bool, true, false, cond, ◌&&◌, and-eq-true_iff}
-use mathlib.Core.Option.{Option, none, some, some-injective, none-ne-some}
+use mathlib.Core.Option.{Option, none, some}
 use Prim.Native.Nat.{ℕ, zero, suc, ◌+◌, ◌-◌, ◌*◌, ◌<◌, ◌≤◌}
 use native.Mathlib.Omega.{arith}
 use lib.Dec.{eqb, leb, leb-zero, leb-suc-zero, leb-suc-suc}
@@ -10,10 +10,13 @@ use lib.ListN.{length, get_or}
 use borrow.Author.Tests.{le-leb, leb-true, eqb-true, eqb-false}
 use mathlib.Core.Logic.{◌⊎◌, inl, inr}
 use Rattle.bits.proofs.Cases.{lt-cases}
+use Rattle.std.specs.Prelude.{Some, None}
+use Rattle.std.specs.Prelude as std
+use Rattle.std.specs.Char.{is_ascii_digit}
 use Rattle.fields.specs.declared.Field.{Field}
 use Rattle.fields.specs.Split.{space}
 use Rattle.fields.specs.Number.{is_digit, all_are_digits, value_from, is_number, number}
-use Rattle.fields.specs.Places.{part_at, end_at, after, found, nothing, tag, first_by, field_by, start_by}
+use Rattle.fields.specs.Places.{part_at, end_at, after, found, tag, first_by, field_by, start_by}
 use Rattle.fields.proofs.SplitLaws.{part_end, part-here, part_step, end-end, end-here, end_step, after-end, after-step}
 
 -- ---- a digit
@@ -31,9 +34,14 @@ pub digit-in : (b : ℕ) → 48 ≤ b → b ≤ 57 → is_digit b ≡ true
 unfolding is_digit
 digit-in b l h = rw (le-leb 48 b l, le-leb b 57 h)
 
--- what a test of a byte says
-pub digit-yes : (b : ℕ) (d : Bool) → d ≡ is_digit b → d ≡ true → is_digit b ≡ true
+-- what the library's test of a byte says
+pub digit-yes : (b : ℕ) (d : Bool) → d ≡ is_ascii_digit b → d ≡ true → is_digit b ≡ true
+unfolding is_digit
 digit-yes b d k u = sym k ∙ u
+
+pub digit-not : (b : ℕ) (d : Bool) → d ≡ is_ascii_digit b → d ≡ false → is_digit b ≡ false
+unfolding is_digit
+digit-not b d k u = sym k ∙ u
 
 -- ---- at most `left` more digits after those that say x
 
@@ -79,7 +87,7 @@ number-empty = refl
 -- ---- the turns of a loop that reads a number: w is the whole answer
 
 -- the number after the digits that say x, with at most `left` more from the place i on
-unfoldable pub number_on : ℕ → ℕ → List ℕ → ℕ → Field
+unfoldable pub number_on : ℕ → ℕ → List ℕ → ℕ → std.Option Field
 number_on left x line i = tag (digits_from left x (part_at space line i)) (end_at space line i)
 
 digits-end : (left x : ℕ) → digits_from left x [] ≡ some x
@@ -102,30 +110,32 @@ unfolding digits_from
 digits_step zero x b l n h = absurd (n refl)
 digits_step (suc left) x b l n h = let e : suc left - 1 ≡ left = omega arith in rw (h, e)
 
-module _ (line : List ℕ) (left x i : ℕ) (w : Field) where
-  pub on-end : w ≡ number_on left x line i → length line ≤ i → found x i ≡ w
+module _ (line : List ℕ) (left x i : ℕ) (w : std.Option Field) where
+  pub on-end : w ≡ number_on left x line i → length line ≤ i → i ≤ length line → Some (found x (length line)) ≡ w
   unfolding number_on tag
-  on-end v h = sym (v ∙ rw (part_end space line i h, digits-end left x, end-end space line i h))
+  on-end v h k =
+      let z : i ≡ length line = omega arith in
+      sym (v ∙ rw (part_end space line i h, digits-end left x, end-end space line i h, z))
 
-  pub on-space : w ≡ number_on left x line i → i < length line → get_or line i 0 ≡ 32 → found x i ≡ w
+  pub on-space : w ≡ number_on left x line i → i < length line → get_or line i 0 ≡ 32 → Some (found x i) ≡ w
   unfolding number_on tag
   on-space v h e = sym (v ∙ rw (part-here space line i h e, digits-end left x, end-here space line i h e))
 
   module _ (v : w ≡ number_on left x line i) (h : i < length line) (e : get_or line i 0 ≡ 32 → ⊥) where
-    pub on-full : (r : Field) → r ≡ nothing → left ≡ 0 → r ≡ w
+    pub on-full : left ≡ 0 → None ≡ w
     unfolding number_on tag
-    on-full r q z = q ∙ sym (v ∙ rw (part_step space line i h e, digits-full left x (get_or line i 0) (part_at space line (i + 1)) z))
+    on-full z = sym (v ∙ rw (part_step space line i h e, digits-full left x (get_or line i 0) (part_at space line (i + 1)) z))
 
-    pub on-bad : (r : Field) (d : Bool) → r ≡ nothing → d ≡ is_digit (get_or line i 0) → d ≡ false → r ≡ w
+    pub on-bad : (d : Bool) → d ≡ is_ascii_digit (get_or line i 0) → d ≡ false → None ≡ w
     unfolding number_on tag
-    on-bad r d q k u =
-        q ∙ sym (v ∙ rw (part_step space line i h e, digits-bad left x (get_or line i 0) (part_at space line (i + 1)) (sym k ∙ u)))
+    on-bad d k u =
+        sym (v ∙ rw (part_step space line i h e, digits-bad left x (get_or line i 0) (part_at space line (i + 1)) (digit-not (get_or line i 0) d k u)))
 
-    pub on_step : (y : ℕ) (d : Bool) → (left ≡ 0 → ⊥) → d ≡ is_digit (get_or line i 0) → d ≡ true → y ≡ get_or line i 0 - 48
+    pub on_step : (y : ℕ) (d : Bool) → (left ≡ 0 → ⊥) → d ≡ is_ascii_digit (get_or line i 0) → d ≡ true → y ≡ get_or line i 0 - 48
         → w ≡ number_on (left - 1) (x * 10 + y) line (i + 1)
     unfolding number_on
     on_step y d z k u m =
-        let s = digits_step left x (get_or line i 0) (part_at space line (i + 1)) z (sym k ∙ u) in
+        let s = digits_step left x (get_or line i 0) (part_at space line (i + 1)) z (digit-yes (get_or line i 0) d k u) in
         v ∙ rw (part_step space line i h e, s, ← m, end_step space line i h e)
 
 -- a digit is no space and no `-`
@@ -135,36 +145,37 @@ digit-no-space b h e = omega (arith, digit_low b h)
 pub digit-no-dash : (b : ℕ) → is_digit b ≡ true → b ≡ 45 → ⊥
 digit-no-dash b h e = omega (arith, digit_low b h)
 
-module _ (line : List ℕ) (i : ℕ) (d : Bool) (h : i < length line) (k : d ≡ is_digit (get_or line i 0)) where
-  pub first-bad : (r : Field) → r ≡ nothing → d ≡ false → r ≡ start_by number line i
+module _ (line : List ℕ) (i : ℕ) (d : Bool) (h : i < length line) (k : d ≡ is_ascii_digit (get_or line i 0)) where
+  pub first-bad : d ≡ false → None ≡ start_by number line i
   unfolding start_by tag
-  first-bad r q u = go (eqb (get_or line i 0) 32) refl
+  first-bad u = go (eqb (get_or line i 0) 32) refl
     where
-      go : (t : Bool) → eqb (get_or line i 0) 32 ≡ t → r ≡ tag (number (part_at space line i)) (end_at space line i)
-      go true e = rw (part-here space line i h (eqb-true (get_or line i 0) 32 e), number-empty) q
+      go : (t : Bool) → eqb (get_or line i 0) 32 ≡ t → None ≡ tag (number (part_at space line i)) (end_at space line i)
+      go true e = rw (part-here space line i h (eqb-true (get_or line i 0) 32 e), number-empty)
       go false e =
-          rw (part_step space line i h (eqb-false (get_or line i 0) 32 e), number-first (get_or line i 0) (part_at space line (i + 1)), ← k, u) q
+          rw (part_step space line i h (eqb-false (get_or line i 0) 32 e), number-first (get_or line i 0) (part_at space line (i + 1)), digit-not (get_or line i 0) d k u)
 
   pub first-digit : (y : ℕ) → d ≡ true → y ≡ get_or line i 0 - 48 → start_by number line i ≡ number_on 3 y line (i + 1)
   unfolding start_by number_on
   first-digit y u m =
-      let n = digit-no-space (get_or line i 0) (sym k ∙ u) in
-      rw (part_step space line i h n, number-first (get_or line i 0) (part_at space line (i + 1)), ← k, u, ← m, end_step space line i h n)
+      let w = digit-yes (get_or line i 0) d k u in
+      let n = digit-no-space (get_or line i 0) w in
+      rw (part_step space line i h n, number-first (get_or line i 0) (part_at space line (i + 1)), w, ← m, end_step space line i h n)
 
 -- ---- a field after a place
 
-pub there : (say : List ℕ → Option ℕ) (line : List ℕ) (at : ℕ) (r : Field) → at + 1 < length line → r ≡ start_by say line (at + 1)
+pub there : (say : List ℕ → Option ℕ) (line : List ℕ) (at : ℕ) (r : std.Option Field) → at + 1 < length line → r ≡ start_by say line (at + 1)
     → r ≡ field_by say line at
 unfolding field_by first_by start_by end_at
 there say line at r h e = let l : at < length line = omega arith in e ∙ rw (after-step space line at l)
 
-pub none-there : (line : List ℕ) (at : ℕ) (r : Field) → length line ≤ at + 1 → r ≡ nothing → r ≡ field_by number line at
+pub none-there : (line : List ℕ) (at : ℕ) → length line ≤ at + 1 → None ≡ field_by number line at
 unfolding field_by first_by tag
-none-there line at r h q = go (lt-cases at (length line))
+none-there line at h = go (lt-cases at (length line))
   where
-    go : (at < length line) ⊎ (length line ≤ at) → r ≡ first_by number (after space line at) at
-    go (inl l) = rw (after-step space line at l, part_end space line (at + 1) h, number-empty) q
-    go (inr l) = rw (after-end space line at l) q
+    go : (at < length line) ⊎ (length line ≤ at) → None ≡ first_by number (after space line at) at
+    go (inl l) = rw (after-step space line at l, part_end space line (at + 1) h, number-empty)
+    go (inr l) = rw (after-end space line at l)
 
 -- ---- the largest number that leaves room for `left` more digits
 
@@ -174,10 +185,10 @@ most (suc zero) = 999
 most (suc (suc zero)) = 99
 most (suc (suc (suc n))) = 9
 
-pub most_step : (left x y b : ℕ) (d : Bool) → left ≤ 3 → (left ≡ 0 → ⊥) → x ≤ most left → d ≡ is_digit b → d ≡ true → y ≡ b - 48
+pub most_step : (left x y b : ℕ) (d : Bool) → left ≤ 3 → (left ≡ 0 → ⊥) → x ≤ most left → d ≡ is_ascii_digit b → d ≡ true → y ≡ b - 48
     → x * 10 + y ≤ most (left - 1)
 unfolding most
-most_step left x y b d l n h k u m = go left l n h (omega (arith, digit-high b (sym k ∙ u)))
+most_step left x y b d l n h k u m = go left l n h (omega (arith, digit-high b (digit-yes b d k u)))
   where
     go : (left : ℕ) → left ≤ 3 → (left ≡ 0 → ⊥) → x ≤ most left → y ≤ 9 → x * 10 + y ≤ most (left - 1)
     go zero l n h e = absurd (n refl)
@@ -193,29 +204,6 @@ most-le (suc zero) x h = omega arith
 most-le (suc (suc zero)) x h = omega arith
 most-le (suc (suc (suc n))) x h = omega arith
 
-pub most-first : (y b : ℕ) (d : Bool) → d ≡ is_digit b → d ≡ true → y ≡ b - 48 → y ≤ most 3
+pub most-first : (y b : ℕ) (d : Bool) → d ≡ is_ascii_digit b → d ≡ true → y ≡ b - 48 → y ≤ most 3
 unfolding most
-most-first y b d k u m = omega (arith, digit-high b (sym k ∙ u))
-
--- ---- a number is below 10,000
-
-digits_le : (left x : ℕ) (f : List ℕ) (y : ℕ) → left ≤ 3 → x ≤ most left → digits_from left x f ≡ some y → y ≤ 9999
-unfolding digits_from
-digits_le left x [] y l h e = let z = some-injective x y e in omega (arith, most-le left x h)
-digits_le zero x (b ∷ f) y l h e = absurd (none-ne-some y e)
-digits_le (suc left) x (b ∷ f) y l h e = go (is_digit b) refl (digits_le left (x * 10 + (b - 48)) f y (omega arith))
-  where
-    p : suc left - 1 ≡ left
-    p = omega arith
-
-    go : (t : Bool) → is_digit b ≡ t → (x * 10 + (b - 48) ≤ most left → digits_from left (x * 10 + (b - 48)) f ≡ some y → y ≤ 9999) → y ≤ 9999
-    go true q ih = ih (rw p at (most_step (suc left) x (b - 48) b true l (λ z. omega arith) h (sym q) refl refl)) (rw q at e)
-    go false q ih = absurd (none-ne-some y (rw q at e))
-
-pub number-le : (f : List ℕ) (y : ℕ) → number f ≡ some y → y ≤ 9999
-number-le [] y e = absurd (none-ne-some y (sym number-empty ∙ e))
-number-le (b ∷ f) y e = go (is_digit b) refl (sym (number-first b f) ∙ e)
-  where
-    go : (t : Bool) → is_digit b ≡ t → cond (is_digit b) (digits_from 3 (b - 48) f) none ≡ some y → y ≤ 9999
-    go true q k = digits_le 3 (b - 48) f y (omega arith) (most-first (b - 48) b true (sym q) refl refl) (rw q at k)
-    go false q k = absurd (none-ne-some y (rw q at k))
+most-first y b d k u m = omega (arith, digit-high b (digit-yes b d k u))

@@ -73,8 +73,8 @@ module _ (s : ℕ) (line : List ℕ) (i w : ℕ) where
   pub ends-here : w ≡ end_at s line i → i < length line → get_or line i 0 ≡ s → i ≡ w
   ends-here v h e = sym (v ∙ end-here s line i h e)
 
-  pub ends-end : w ≡ end_at s line i → length line ≤ i → i ≡ w
-  ends-end v h = sym (v ∙ end-end s line i h)
+  pub ends-end : w ≡ end_at s line i → length line ≤ i → i ≤ length line → length line ≡ w
+  ends-end v h k = let z : i ≡ length line = omega arith in sym (v ∙ end-end s line i h ∙ z)
 
 -- ---- where a part ends, and what its bytes are
 

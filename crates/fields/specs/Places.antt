@@ -1,5 +1,6 @@
 -- The parts of a list of bytes by their places, for code that goes along the bytes, and a field read at a place.
-use Rattle.std.specs.Prelude.{cond, List, [], ◌∷◌, ℕ, ◌+◌, eqb, length, drop}
+use Rattle.std.specs.Prelude.{cond, List, [], ◌∷◌, ℕ, ◌+◌, eqb, length, drop, Some, None}
+use Rattle.std.specs.Prelude as std
 use Rattle.std.proofs.Math.Option.{Option, none, some}
 use Rattle.fields.specs.declared.Field.{Field}
 use Rattle.fields.specs.Split.{split, space}
@@ -30,24 +31,20 @@ after s line at = behind s (drop at line)
 abbrev pub found : ℕ → ℕ → Field
 found x p = record { value = x; next = p }
 
--- nothing was read: 10,000 is no number of four digits
-abbrev pub nothing : Field
-nothing = found 10000 0
-
 -- what a field says, if anything, with the place after it
-unfoldable pub tag : Option ℕ → ℕ → Field
-tag none p = nothing
-tag (some x) p = found x p
+unfoldable pub tag : Option ℕ → ℕ → std.Option Field
+tag none p = None
+tag (some x) p = Some (found x p)
 
--- the first of some fields after a place, as `say` reads it
-unfoldable pub first_by : (List ℕ → Option ℕ) → List (List ℕ) → ℕ → Field
-first_by say [] at = nothing
+-- the first of some fields after a place, as `say` reads it, if it does
+unfoldable pub first_by : (List ℕ → Option ℕ) → List (List ℕ) → ℕ → std.Option Field
+first_by say [] at = None
 first_by say (f ∷ fs) at = tag (say f) (at + 1 + length f)
 
--- the field of a line after the space at a place, as `say` reads it
-unfoldable pub field_by : (List ℕ → Option ℕ) → List ℕ → ℕ → Field
+-- the field of a line after the space at a place, as `say` reads it, if it does
+unfoldable pub field_by : (List ℕ → Option ℕ) → List ℕ → ℕ → std.Option Field
 field_by say line at = first_by say (after space line at) at
 
--- the field of a line that starts at a place, as `say` reads it
-unfoldable pub start_by : (List ℕ → Option ℕ) → List ℕ → ℕ → Field
+-- the field of a line that starts at a place, as `say` reads it, if it does
+unfoldable pub start_by : (List ℕ → Option ℕ) → List ℕ → ℕ → std.Option Field
 start_by say line i = tag (say (part_at space line i)) (end_at space line i)

@@ -2,6 +2,7 @@
 use mathlib.Core.Path.{◌≡◌, sym, ap, ap₂, ◌∙◌}
 use mathlib.Core.Bool.{Bool, false, cond, ◌&&◌, and-false}
 use mathlib.Core.List.{List}
+use Rattle.std.specs.Prelude.{Option}
 use Prim.Native.Nat.{ℕ, ◌≤◌, ◌<◌}
 use native.Mathlib.Omega.{arith}
 use borrow.Author.Tests.{le-leb, lt-leb}
@@ -27,7 +28,7 @@ pub line_read : (t : Tables) (scratch column out line : List ℕ) → 4096 ≤ l
 unfolding line_of enough
 line_read t scratch column out line c o = rw (le-leb 4096 (length column) c, le-leb 10276 (length out) o)
 
-pub line-done : (t t' : Tables) (scratch scratch' line column column' out out' : List ℕ) (wish : Request) (a : Said) (len : ℕ)
+pub line-done : (t t' : Tables) (scratch scratch' line column column' out out' : List ℕ) (wish : Option Request) (a : Said) (len : ℕ)
     → 4096 ≤ length column → 10276 ≤ length out → Requested line column column' wish → Turned t t' scratch scratch' (asked wish column') a
     → PutLine out (heard_from t'.words scratch' a) out' len
     → line_outcome t' scratch' column' out' len ≡ line_of t scratch column out line

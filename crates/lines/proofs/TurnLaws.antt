@@ -28,10 +28,11 @@ use Rattle.tables.specs.Meaning.{meaning}
 use Rattle.lent.specs.Places.{put_at, freed_all, all_freed}
 use Rattle.history.specs.declared.read.Standing.{Standing}
 use Rattle.history.specs.Version.{slot_seen}
-use Rattle.text.specs.declared.words.Word.{Word}
-use Rattle.text.specs.declared.words.Word.TheVariants as word
+use Rattle.std.specs.Prelude.{Some, None}
+use Rattle.std.specs.Prelude as std
 use Rattle.text.specs.declared.requests.Request.{Request}
-use Rattle.text.specs.Asked.{asked_by, asked}
+use Rattle.text.specs.declared.requests.Request.TheVariants as request
+use Rattle.text.specs.Asked.{asked_by, asked, taken_by, taken}
 use Rattle.outcomes.specs.declared.answers.Place.{Place}
 use Rattle.outcomes.specs.declared.answers.Answer as core
 use Rattle.outcomes.specs.declared.answers.Answer.TheVariants.{No, Count, At, Read, Listed}
@@ -133,9 +134,10 @@ bytes-again [] = refl
 bytes-again (b ∷ l) = ap₂ (λ (x : ℕ) (xs : List ℕ). x ∷ xs) (byte-again b) (bytes-again l)
 
 -- a column's part of the lent bytes
-pub part_length : (column : List ℕ) (wish : Request) → (wish.word ≡ word.Column → wish.b ≤ length column) → wish.word ≡ word.Column
-    → wish.b ≡ length (take wish.b column)
-part_length column wish h e = sym (length-take-le wish.b column (h e))
+pub part_length : (column : List ℕ) (wish : std.Option Request) (r : Request) (values rows : ℕ) → taken wish ≤ length column → wish ≡ Some r
+    → r ≡ request.Column values rows → rows ≡ length (take rows column)
+unfolding taken taken_by
+part_length column wish r values rows h w e = sym (length-take-le rows column (rw (w, e) at h))
 
 -- ---- what is left of the sessions
 
@@ -202,7 +204,7 @@ module _ (answer : core.Answer) where
 -- ---- the call of each word
 
 module _ (clock₀ slots₀ ws₀ heads₀ log₀ changes₀ clock slots ws heads log changes : List ℕ) (ts : List Session)
-    (s column : List ℕ) (wish : Request) (answer told : core.Answer) (l : Left) where
+    (s column : List ℕ) (wish : std.Option Request) (answer told : core.Answer) (l : Left) where
   abbrev t : Tables
   t = tables clock₀ slots₀ ws₀ heads₀ log₀ changes₀ ts
 
@@ -212,10 +214,10 @@ module _ (clock₀ slots₀ ws₀ heads₀ log₀ changes₀ clock slots ws head
   abbrev Done : List ℕ → Type 0
   Done s' = Turned t (after (leaves ts l)) s s' (asked wish column) (said answer)
 
-  -- what the request asks for, by its word
-  by_word : (w : Word) → wish.word ≡ w → turn_of t s (asked wish column) ≡ turn_of t s (asked_by w wish.a wish.b wish.c column)
+  -- what the request asks for
+  by_word : (r q : Request) → wish ≡ Some r → r ≡ q → turn_of t s (asked wish column) ≡ turn_of t s (some (asked_by q column))
   unfolding asked
-  by_word w e = ap (λ (v : Word). turn_of t s (asked_by v wish.a wish.b wish.c column)) e
+  by_word r q w e = rw (w, e)
 
   -- a call that left these sessions
   turns : (us : List Session) (bs : List (List ℕ)) (k : Ask) → outcome (after us) bs (said told) ≡ comes_to t k → answer ≡ told
@@ -224,74 +226,74 @@ module _ (clock₀ slots₀ ws₀ heads₀ log₀ changes₀ clock slots ws head
       call-turns t (after (leaves ts l)) bs (said answer) s k (asked wish column)
       (ap₂ (λ (vs : List Session) (b : core.Answer). outcome (after vs) bs (said b)) f a ∙ e) h c
 
-  pub create-turns : length ts ≡ 16 → wish.word ≡ word.Column
-      → outcome (after (all_freed ts (accepts (said told)))) [] (said told) ≡ create_of t wish.a (take wish.b column) → answer ≡ told
+  pub create-turns : (r : Request) (values rows : ℕ) → length ts ≡ 16 → wish ≡ Some r → r ≡ request.Column values rows
+      → outcome (after (all_freed ts (accepts (said told)))) [] (said told) ≡ create_of t values (take rows column) → answer ≡ told
       → l.put ≡ false → l.anew ≡ accepts (said told) → Done s
   unfolding asked_by turn_of ask_with scratch_after
-  create-turns n p e a f g =
-      turns (all_freed ts (accepts (said told))) [] (create wish.a (take wish.b column)) e a (none_left ts l _ f g ∙ all-freed ts _ n)
-      refl (by_word word.Column p ∙ ap (λ (col : List ℕ). made t s (create wish.a col)) (bytes-again (take wish.b column)))
+  create-turns r values rows n w p e a f g =
+      turns (all_freed ts (accepts (said told))) [] (create values (take rows column)) e a (none_left ts l _ f g ∙ all-freed ts _ n)
+      refl (by_word r (request.Column values rows) w p ∙ ap (λ (col : List ℕ). made t s (create values col)) (bytes-again (take rows column)))
 
-  pub none-turns : wish.word ≡ word.Unknown → said answer ≡ no 19 → l.put ≡ false → l.anew ≡ false
+  pub none-turns : wish ≡ None → said answer ≡ no 19 → l.put ≡ false → l.anew ≡ false
       → Turned t (tables clock₀ slots₀ ws₀ heads₀ log₀ changes₀ (leaves ts l)) s s (asked wish column) (said answer)
-  unfolding asked_by turn_of heard_from
+  unfolding asked turn_of heard_from
   none-turns p a f g =
       ap₂ (λ (us : List Session) (b : Said). turn (tables clock₀ slots₀ ws₀ heads₀ log₀ changes₀ us) s (heard_from ws₀ s b))
-      (all-stand ts l f g) a ∙ sym (by_word word.Unknown p)
+      (all-stand ts l f g) a ∙ rw p
 
-  module _ (x : Session) where
-    -- a call about session a that came to this
+  module _ (x : Session) (r : Request) (n : ℕ) where
+    -- a call about session n that came to this
     abbrev About : List (List ℕ) → Outcome → Type 0
-    About bs o = outcome (after (put_at ts wish.a x)) bs (said told) ≡ o
+    About bs o = outcome (after (put_at ts n x)) bs (said told) ≡ o
 
-    one : (bs : List (List ℕ)) (k : Ask) → About bs (comes_to t k) → answer ≡ told → l ≡ left_at wish.a x
+    one : (bs : List (List ℕ)) (k : Ask) → About bs (comes_to t k) → answer ≡ told → l ≡ left_at n x
         → Picks t k → turn_of t s (asked wish column) ≡ made t s k → Done (scratch_after s bs)
-    one bs k e a f h c = turns (put_at ts wish.a x) bs k e a (ap (leaves ts) f ∙ one_left ts wish.a x) h c
+    one bs k e a f h c = turns (put_at ts n x) bs k e a (ap (leaves ts) f ∙ one_left ts n x) h c
 
-    pub query-turns : (s' : List ℕ) → wish.word ≡ word.Query → About (s' ∷ []) (query_of t s wish.a wish.b 8) → answer ≡ told
-        → l ≡ left_at wish.a x → Done s'
+    pub query-turns : (s' : List ℕ) (v : ℕ) → wish ≡ Some r → r ≡ request.Query n v → About (s' ∷ []) (query_of t s n v 8) → answer ≡ told
+        → l ≡ left_at n x → Done s'
     unfolding asked_by turn_of ask_with scratch_after usual_threshold
-    query-turns s' p e a f = one (s' ∷ []) (query s wish.a wish.b 8) e a f refl (by_word word.Query p)
+    query-turns s' v w p e a f = one (s' ∷ []) (query s n v 8) e a f refl (by_word r (request.Query n v) w p)
 
-    pub begin-turns : wish.word ≡ word.Begin → About [] (begin_of t wish.a) → answer ≡ told
-        → l ≡ left_at wish.a x → Done s
+    pub begin-turns : wish ≡ Some r → r ≡ request.Begin n → About [] (begin_of t n) → answer ≡ told
+        → l ≡ left_at n x → Done s
     unfolding asked_by turn_of ask_with scratch_after
-    begin-turns p e a f = one [] (begin wish.a) e a f refl (by_word word.Begin p)
+    begin-turns w p e a f = one [] (begin n) e a f refl (by_word r (request.Begin n) w p)
 
-    pub read-turns : wish.word ≡ word.Read → About [] (read_of t wish.a wish.b) → answer ≡ told
-        → l ≡ left_at wish.a x → Done s
+    pub read-turns : (m : ℕ) → wish ≡ Some r → r ≡ request.Read n m → About [] (read_of t n m) → answer ≡ told
+        → l ≡ left_at n x → Done s
     unfolding asked_by turn_of ask_with scratch_after
-    read-turns p e a f = one [] (read wish.a wish.b) e a f refl (by_word word.Read p)
+    read-turns m w p e a f = one [] (read n m) e a f refl (by_word r (request.Read n m) w p)
 
-    pub update-turns : wish.word ≡ word.Update → About [] (update_of t wish.a wish.b wish.c) → answer ≡ told
-        → l ≡ left_at wish.a x → Done s
+    pub update-turns : (m v : ℕ) → wish ≡ Some r → r ≡ request.Update n m v → About [] (update_of t n m v) → answer ≡ told
+        → l ≡ left_at n x → Done s
     unfolding asked_by turn_of ask_with scratch_after
-    update-turns p e a f = one [] (update wish.a wish.b wish.c) e a f refl (by_word word.Update p)
+    update-turns m v w p e a f = one [] (update n m v) e a f refl (by_word r (request.Update n m v) w p)
 
-    pub delete-turns : wish.word ≡ word.Delete → About [] (delete_of t wish.a wish.b) → answer ≡ told
-        → l ≡ left_at wish.a x → Done s
+    pub delete-turns : (m : ℕ) → wish ≡ Some r → r ≡ request.Delete n m → About [] (delete_of t n m) → answer ≡ told
+        → l ≡ left_at n x → Done s
     unfolding asked_by turn_of ask_with scratch_after
-    delete-turns p e a f = one [] (delete wish.a wish.b) e a f refl (by_word word.Delete p)
+    delete-turns m w p e a f = one [] (delete n m) e a f refl (by_word r (request.Delete n m) w p)
 
-    pub insert-turns : wish.word ≡ word.Insert → About [] (insert_of t wish.a wish.b) → answer ≡ told
-        → l ≡ left_at wish.a x → Done s
+    pub insert-turns : (v : ℕ) → wish ≡ Some r → r ≡ request.Insert n v → About [] (insert_of t n v) → answer ≡ told
+        → l ≡ left_at n x → Done s
     unfolding asked_by turn_of ask_with scratch_after
-    insert-turns p e a f = one [] (insert wish.a wish.b) e a f refl (by_word word.Insert p)
+    insert-turns v w p e a f = one [] (insert n v) e a f refl (by_word r (request.Insert n v) w p)
 
-    pub commit-turns : wish.word ≡ word.Commit → About [] (commit_of t wish.a) → answer ≡ told
-        → l ≡ left_at wish.a x → Done s
+    pub commit-turns : wish ≡ Some r → r ≡ request.Commit n → About [] (commit_of t n) → answer ≡ told
+        → l ≡ left_at n x → Done s
     unfolding asked_by turn_of ask_with scratch_after
-    commit-turns p e a f = one [] (commit wish.a) e a f refl (by_word word.Commit p)
+    commit-turns w p e a f = one [] (commit n) e a f refl (by_word r (request.Commit n) w p)
 
-    pub tidy-turns : wish.word ≡ word.Tidy → About [] (tidy_of t wish.a wish.b) → answer ≡ told
-        → l ≡ left_at wish.a x → Done s
+    pub tidy-turns : (v : ℕ) → wish ≡ Some r → r ≡ request.Tidy n v → About [] (tidy_of t n v) → answer ≡ told
+        → l ≡ left_at n x → Done s
     unfolding asked_by turn_of ask_with scratch_after
-    tidy-turns p e a f = one [] (tidy wish.a wish.b) e a f refl (by_word word.Tidy p)
+    tidy-turns v w p e a f = one [] (tidy n v) e a f refl (by_word r (request.Tidy n v) w p)
 
-    pub abort-turns : wish.word ≡ word.Abort → About [] (abort_of t wish.a) → answer ≡ told
-        → l ≡ left_at wish.a x → Done s
+    pub abort-turns : wish ≡ Some r → r ≡ request.Abort n → About [] (abort_of t n) → answer ≡ told
+        → l ≡ left_at n x → Done s
     unfolding asked_by turn_of ask_with scratch_after
-    abort-turns p e a f = one [] (abort wish.a) e a f refl (by_word word.Abort p)
+    abort-turns w p e a f = one [] (abort n) e a f refl (by_word r (request.Abort n) w p)
 
 -- sixteen free sessions
 pub free-each : (x : Session) → x ≡ freed → replicate 16 x ≡ replicate 16 freed

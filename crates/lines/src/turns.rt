@@ -1,8 +1,7 @@
 // What a line asks for is done, by the public call of its word.
 ghost use Rattle.std.specs.Prelude.{◌≡◌, false, ◌<◌, ◌≤◌, length};
 ghost use Rattle.tables.specs.Cells.{tables};
-ghost use Rattle.text.specs.declared.words.Word.TheVariants.{Column};
-ghost use Rattle.text.specs.Asked.{asked};
+ghost use Rattle.text.specs.Asked.{asked, taken};
 ghost use Rattle.outcomes.specs.Said.{said, no};
 ghost use Rattle.door.specs.Accepts.{accepts};
 ghost use Rattle.lines.specs.Left.{leaves, left_at};
@@ -12,7 +11,7 @@ use crate::sessions::{Left, left_at, none_put};
 use door::{Held, Sessions};
 use outcomes::Answer;
 use tables::Refusal;
-use text::{Request, Word};
+use text::Request;
 
 // What a request comes to beside the lent tables: its answer, and what it leaves of the sessions.
 #[derive(Clone, Copy)]
@@ -69,7 +68,7 @@ fn created(answer: Answer) -> Done
     }
 }
 
-// The call that a request asks for; a column's values are the first of the lent bytes.
+// The call that a request asks for, or none where the line could not be read; a column's values are the first of the lent bytes.
 pub fn turn(
     clock: &mut [u32],
     slots: &mut [u32],
@@ -80,9 +79,9 @@ pub fn turn(
     all: Sessions,
     scratch: &mut [u64],
     column: &[u8],
-    wish: Request,
+    wish: Option<Request>,
 ) -> Done
-    requires { wish.word ≡ Column → wish.b ≤ length column.now }
+    requires { taken wish ≤ length column.now }
     ensures turned { Turned (tables clock.old slots.old words.old heads.old log.old
         changes.old all.at)
         (tables clock.new slots.new words.new heads.new log.new
@@ -90,12 +89,11 @@ pub fn turn(
         scratch.old scratch.new (asked wish column.now) (said result.answer) }
     ensures place_bound { result.left.place < 16 }
 {
-    let word = wish.word;
-    let a = wish.a;
-    let b = wish.b;
-    match word {
-        Word::Column => {
-            let n = b as usize;
+    let Some(request) = wish else {
+        return unreadable();
+    };
+    match request {
+        Request::Column { values, rows } => {
             let answer = door::create_held(
                 clock,
                 slots,
@@ -104,49 +102,58 @@ pub fn turn(
                 log,
                 changes,
                 all,
-                a,
-                &column[..n],
+                values,
+                &column[..rows],
             );
             created(answer)
         }
-        Word::Begin => {
-            let d = door::begin_held(clock, slots, words, heads, log, changes, all, a);
-            about(a, d)
+        Request::Begin { session } => {
+            let d = door::begin_held(clock, slots, words, heads, log, changes, all, session);
+            about(session, d)
         }
-        Word::Query => {
+        Request::Query { session, value } => {
             let d = door::query_held(
-                clock, slots, words, heads, log, changes, all, scratch, a, b, 8,
+                clock, slots, words, heads, log, changes, all, scratch, session, value, 8,
             );
-            about(a, d)
+            about(session, d)
         }
-        Word::Read => {
-            let d = door::read_held(clock, slots, words, heads, log, changes, all, a, b);
-            about(a, d)
+        Request::Read { session, row } => {
+            let d = door::read_held(clock, slots, words, heads, log, changes, all, session, row);
+            about(session, d)
         }
-        Word::Update => {
-            let d = door::update_held(clock, slots, words, heads, log, changes, all, a, b, wish.c);
-            about(a, d)
+        Request::Update {
+            session,
+            row,
+            value,
+        } => {
+            let d = door::update_held(
+                clock, slots, words, heads, log, changes, all, session, row, value,
+            );
+            about(session, d)
         }
-        Word::Delete => {
-            let d = door::delete_held(clock, slots, words, heads, log, changes, all, a, b);
-            about(a, d)
+        Request::Delete { session, row } => {
+            let d = door::delete_held(clock, slots, words, heads, log, changes, all, session, row);
+            about(session, d)
         }
-        Word::Insert => {
-            let d = door::insert_held(clock, slots, words, heads, log, changes, all, a, b);
-            about(a, d)
+        Request::Insert { session, value } => {
+            let d = door::insert_held(
+                clock, slots, words, heads, log, changes, all, session, value,
+            );
+            about(session, d)
         }
-        Word::Commit => {
-            let d = door::commit_held(clock, slots, words, heads, log, changes, all, a);
-            about(a, d)
+        Request::Commit { session } => {
+            let d = door::commit_held(clock, slots, words, heads, log, changes, all, session);
+            about(session, d)
         }
-        Word::Tidy => {
-            let d = door::tidy_held(clock, slots, words, heads, log, changes, all, a, b);
-            about(a, d)
+        Request::Tidy { session, value } => {
+            let d = door::tidy_held(
+                clock, slots, words, heads, log, changes, all, session, value,
+            );
+            about(session, d)
         }
-        Word::Abort => {
-            let d = door::abort_held(clock, slots, words, heads, log, changes, all, a);
-            about(a, d)
+        Request::Abort { session } => {
+            let d = door::abort_held(clock, slots, words, heads, log, changes, all, session);
+            about(session, d)
         }
-        Word::Unknown => unreadable(),
     }
 }

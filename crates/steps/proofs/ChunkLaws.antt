@@ -71,9 +71,9 @@ part_room out filled l = omega (arith, l, ap length (whole_part out filled), len
 module _ {bytes : List ℕ} {s₀ : Spot} {d d' : Desk} {pending pending' out part : List ℕ} {len filled at n : ℕ} {fed : Fed}
     (came : Comes bytes s₀ (spot d pending len out filled at)) (room : filled + 10276 ≤ length out)
     (fs : Feeds pending len bytes at pending' fed)
-    (rep : Replied d (whole_line fed.whole (take fed.line pending')) (lent_part out filled) d' part n) where
+    (rep : Replied d (whole_line fed.line pending') (lent_part out filled) d' part n) where
   abbrev ls : List (List ℕ)
-  ls = whole_line fed.whole (take fed.line pending')
+  ls = whole_line fed.line pending'
 
   abbrev rest : ℕ → List (List ℕ)
   rest m = map (take m) (cut (take fed.len pending') (drop fed.next bytes))

@@ -1,12 +1,12 @@
 -- A line answered, or none: what it leaves, and the bytes of its answer.
 use mathlib.Core.Path.{◌≡◌, refl, sym, ap, ap₂, ◌∙◌}
-use mathlib.Core.Bool.{Bool, true, false, not, cond}
+use mathlib.Core.Bool.{Bool, true, false, cond}
 use mathlib.Core.List.{List, [], ◌∷◌, ◌++◌, append-nil, append_assoc}
 use Prim.Native.Nat.{ℕ, ◌≤◌}
 use native.Mathlib.Omega.{arith}
-use borrow.Author.Tests.{not-true, not-false}
-use lib.ListN.{length, set, replicate}
+use lib.ListN.{length, take, set, replicate}
 use lib.Seq.{sets}
+use Rattle.std.specs.Prelude.{Option, Some, None}
 use Rattle.tables.specs.declared.session.Session.{Session}
 use Rattle.tables.specs.Cells.{Tables, tables}
 use Rattle.tables.specs.Sessions.{freed}
@@ -36,12 +36,13 @@ after-append d (l ∷ ls) ms = after-append (after_line d l) ls ms
 
 -- ---- a line that is whole, and none
 
-module _ (t t' : Tables) (s s' column column' out out' line : List ℕ) (len : ℕ) where
-  pub replied-line : (whole : Bool) → not whole ≡ false → 4096 ≤ length column → 10276 ≤ length out
-      → line_outcome t' s' column' out' len ≡ line_of t s column out line → len ≤ 10276
-      → Replied (desk t s) (whole_line whole line) out (desk t' s') out' len
+module _ (t t' : Tables) (s s' column column' out out' held : List ℕ) (n len : ℕ) where
+  pub replied-line : (whole : Option ℕ) → whole ≡ Some n → 4096 ≤ length column → 10276 ≤ length out
+      → line_outcome t' s' column' out' len ≡ line_of t s column out (take n held) → len ≤ 10276
+      → Replied (desk t s) (whole_line whole held) out (desk t' s') out' len
   unfolding whole_line after_lines answers_of written
   replied-line whole w c l e k =
+      let line : List ℕ = take n held in
       let o : line_outcome t' s' column' out' len ≡ written (turn_of t s (parse line)) line column out =
       e ∙ sym (line_read t s column out line c l) in
       let one : answer_line (turn_of t s (parse line)).answer ++ [] ≡ answer_line (turn_of t s (parse line)).answer = append-nil _ in
@@ -51,18 +52,18 @@ module _ (t t' : Tables) (s s' column column' out out' line : List ℕ) (len : �
         len_is = ap (λ (x : LineOutcome). x.len) o ∙ ap length (sym one);
         short = k;
       } in
-      rw (not-false whole w) r
+      rw w r
 
-module _ (clock slots words heads log changes s out line : List ℕ) (ts : List Session) (l : Left) (len : ℕ) where
-  pub replied-none : (whole : Bool) → not whole ≡ true → len ≡ 0 → l.put ≡ false → l.anew ≡ false
-      → Replied (desk (tables clock slots words heads log changes ts) s) (whole_line whole line) out
+module _ (clock slots words heads log changes s out held : List ℕ) (ts : List Session) (l : Left) (len : ℕ) where
+  pub replied-none : (whole : Option ℕ) → whole ≡ None → len ≡ 0 → l.put ≡ false → l.anew ≡ false
+      → Replied (desk (tables clock slots words heads log changes ts) s) (whole_line whole held) out
       (desk (tables clock slots words heads log changes (leaves ts l)) s) out len
   unfolding whole_line after_lines answers_of
   replied-none whole w n p z =
       let t = tables clock slots words heads log changes in
       let r : Replied (desk (t ts) s) [] out (desk (t (leaves ts l)) s) out len =
       record { desk-is = ap (λ (us : List Session). desk (t us) s) (all-stand ts l p z); out-is = refl; len_is = n; short = omega arith } in
-      rw (not-true whole w) r
+      rw w r
 
 -- ---- what a line left of the sessions, put in place
 

@@ -1,5 +1,5 @@
 // The lines of a chunk of the input, answered.
-ghost use Rattle.std.specs.Prelude.{◌≡◌, ◌&&◌, ◌-◌, ◌<◌, ◌≤◌, leb, ltb, length, take};
+ghost use Rattle.std.specs.Prelude.{◌≡◌, ◌&&◌, ◌-◌, ◌<◌, ◌≤◌, leb, ltb, length, IfSome};
 ghost use Rattle.tables.specs.Cells.{tables};
 ghost use Rattle.text.specs.Feed.{whole_line};
 ghost use Rattle.lines.specs.Left.{leaves};
@@ -7,7 +7,6 @@ ghost use Rattle.steps.specs.Desk.{desk};
 ghost use Rattle.steps.specs.Answers.{Replied, spot, Answers};
 
 use lines::{Lined, Sessions};
-use text::Fed;
 
 // What stands between two lines: how many bytes are pending of the next one, how many bytes of answers are not yet written,
 // where the chunk goes on, and the sessions.
@@ -27,7 +26,7 @@ fn goes_on(at: usize, n: usize, filled: usize, room: usize) -> bool
     (at < n) & (10276 <= room - filled)
 }
 
-// The line that was fed is answered, if it is whole; what is left of the sessions is handed back.
+// A line that is whole is answered, if there is one: the first so many bytes pending; what is left of the sessions is handed back.
 fn answered(
     clock: &mut [u32],
     slots: &mut [u32],
@@ -40,21 +39,19 @@ fn answered(
     pending: &[u8],
     out: &mut [u8],
     all: Sessions,
-    fed: Fed,
+    whole: Option<usize>,
 ) -> Lined
-    requires { (4096 ≤ length column.old) × (10276 ≤ length out.old) × (fed.line ≤ length pending.now) }
+    requires { (4096 ≤ length column.old) × (10276 ≤ length out.old) × IfSome whole (λ n. n ≤ length pending.now) }
     ensures replied { Replied
         (desk (tables clock.old slots.old words.old heads.old log.old
-        changes.old all.at) scratch.old) (whole_line fed.whole (take fed.line
-        pending.now)) out.old
+        changes.old all.at) scratch.old) (whole_line whole pending.now) out.old
         (desk (tables clock.new slots.new words.new heads.new log.new
         changes.new (leaves all.at result.left)) scratch.new) out.new result.len }
     ensures place_bound { result.left.place < 16 }
 {
-    let n = fed.line;
-    if !fed.whole {
+    let Some(n) = whole else {
         return lines::nothing();
-    }
+    };
     lines::line(
         clock,
         slots,
@@ -115,7 +112,7 @@ pub fn answer(
             pending,
             &mut out[filled..],
             all,
-            fed,
+            fed.line,
         );
         let left = done.left;
         let i = left.place;

@@ -3,49 +3,68 @@ use Rattle.std.proofs.Common.{◌≡◌, ℕ, ◌+◌, ◌-◌, ◌*◌, ◌<◌
 use mathlib.Core.Bool.{and-false}
 use mathlib.Core.Option.{Option, none, some}
 use borrow.Author.Tests.{lt-leb, eqb-false}
+use Rattle.std.specs.Prelude.{Some, None}
+use Rattle.std.specs.Prelude as std
+use Rattle.std.specs.Char.{is_ascii_digit}
 use Rattle.fields.specs.declared.Field.{Field}
 use Rattle.text.specs.Bytes.{bytes, same}
 use Rattle.fields.specs.Split.{space}
 use Rattle.fields.specs.Number.{is_digit, number}
 use Rattle.text.specs.Parse.{up_to254, small}
-use Rattle.fields.specs.Places.{part_at, after, found, nothing, tag, first_by, field_by}
+use Rattle.fields.specs.Places.{part_at, after, found, tag, first_by, field_by}
 use Rattle.text.specs.Cells.{byte_of, Near}
 use Rattle.fields.proofs.SplitLaws.{part_end, part-here, part_step, after-step}
-use Rattle.fields.proofs.NumberLaws.{digits_from, number-first, digit-in, digit_low, digit-high, digit-no-space, digit-no-dash}
+use Rattle.fields.proofs.NumberLaws.{digits_from, number-first, digit-in, digit_low, digit-high, digit-yes, digit-no-space, digit-no-dash}
 use Rattle.text.proofs.WordLaws.{same-eq}
 
 -- ---- a number up to 254
 
-tag-over : (o : Option ℕ) (p : ℕ) (r : Field) → r ≡ tag o p → 254 < r.value → nothing ≡ tag (up_to254 o) p
+tag_none : (o : Option ℕ) (p : ℕ) → None ≡ tag o p → None ≡ tag (up_to254 o) p
+unfolding up_to254 tag
+tag_none none p e = refl
+tag_none (some x) p e = let z = e in cc
+
+tag-over : (o : Option ℕ) (p : ℕ) (r : Field) → Some r ≡ tag o p → 254 < r.value → None ≡ tag (up_to254 o) p
 unfolding up_to254 tag
 tag-over none p r e h = refl
 tag-over (some x) p r e h =
-    let z : r.value ≡ x = ap (λ (q : Field). q.value) e in
+    let w : r ≡ found x p = cc in
+    let z : r.value ≡ x = ap (λ (q : Field). q.value) w in
     rw (lt-leb x 254 (omega arith))
 
-tag-under : (o : Option ℕ) (p : ℕ) (r : Field) → r ≡ tag o p → r.value ≤ 254 → r ≡ tag (up_to254 o) p
+tag-under : (o : Option ℕ) (p : ℕ) (r : Field) → Some r ≡ tag o p → r.value ≤ 254 → Some r ≡ tag (up_to254 o) p
 unfolding up_to254 tag
 tag-under none p r e h = e
 tag-under (some x) p r e h =
-    let z : r.value ≡ x = ap (λ (q : Field). q.value) e in
+    let w : r ≡ found x p = cc in
+    let z : r.value ≡ x = ap (λ (q : Field). q.value) w in
     rw (le-leb x 254 (omega arith)) e
 
-module _ (line : List ℕ) (at : ℕ) (r : Field) (e : r ≡ field_by number line at) where
-  pub small-over : (q : Field) → 254 < r.value → q ≡ nothing → q ≡ field_by small line at
+module _ (line : List ℕ) (at : ℕ) where
+  pub small-none : None ≡ field_by number line at → None ≡ field_by small line at
   unfolding field_by first_by small
-  small-over q h n = n ∙ go (after space line at) e
+  small-none e = go (after space line at) e
     where
-      go : (fs : List (List ℕ)) → r ≡ first_by number fs at → nothing ≡ first_by small fs at
-      go [] k = refl
-      go (f ∷ fs) k = tag-over (number f) (at + 1 + length f) r k h
-
-  pub small_is : r.value ≤ 254 → r ≡ field_by small line at
-  unfolding field_by first_by small
-  small_is h = go (after space line at) e
-    where
-      go : (fs : List (List ℕ)) → r ≡ first_by number fs at → r ≡ first_by small fs at
+      go : (fs : List (List ℕ)) → None ≡ first_by number fs at → None ≡ first_by small fs at
       go [] k = k
-      go (f ∷ fs) k = tag-under (number f) (at + 1 + length f) r k h
+      go (f ∷ fs) k = tag_none (number f) (at + 1 + length f) k
+
+  module _ (r : Field) (e : Some r ≡ field_by number line at) where
+    pub small-over : 254 < r.value → None ≡ field_by small line at
+    unfolding field_by first_by small
+    small-over h = go (after space line at) e
+      where
+        go : (fs : List (List ℕ)) → Some r ≡ first_by number fs at → None ≡ first_by small fs at
+        go [] k = refl
+        go (f ∷ fs) k = tag-over (number f) (at + 1 + length f) r k h
+
+    pub small_is : r.value ≤ 254 → Some r ≡ field_by small line at
+    unfolding field_by first_by small
+    small_is h = go (after space line at) e
+      where
+        go : (fs : List (List ℕ)) → Some r ≡ first_by number fs at → Some r ≡ first_by small fs at
+        go [] k = k
+        go (f ∷ fs) k = tag-under (number f) (at + 1 + length f) r k h
 
 -- ---- `-`
 
@@ -109,35 +128,31 @@ byte-two a b x d l e =
 -- ---- the field of a cell at its place
 
 module _ (line : List ℕ) (at : ℕ) (d : Bool) (h : at < length line) (k : d ≡ same (part_at space line (at + 1)) (bytes "-")) where
-  pub cell-dash : d ≡ true → found 255 (at + 2) ≡ field_by byte_of line at
+  pub cell-dash : d ≡ true → Some (found 255 (at + 2)) ≡ field_by byte_of line at
   unfolding field_by first_by byte_of tag
   cell-dash u =
       let l : length (part_at space line (at + 1)) ≡ 1 = ap length (same-eq (part_at space line (at + 1)) (bytes "-") (sym k ∙ u)) in
       let p : at + 1 + 1 ≡ at + 2 = omega arith in
       rw (after-step space line at h, ← k, u, l, p)
 
-  pub cell-small : (q : Field) → d ≡ false → q ≡ field_by small line at → q ≡ field_by byte_of line at
+  pub cell-small : (q : std.Option Field) → d ≡ false → q ≡ field_by small line at → q ≡ field_by byte_of line at
   unfolding field_by first_by byte_of
   cell-small q u g = g ∙ rw (after-step space line at h, ← k, u)
 
 -- ---- a cell of one digit or two between two spaces
 
--- nothing was read
-pub near_none : (line : List ℕ) (at : ℕ) (r : Field) → r ≡ nothing → Near line at r
-near_none line at r e = rw e (record { cell-is = λ h. absurd (omega arith); inside = λ h. absurd (omega arith) })
-
 module _ (line : List ℕ) (at : ℕ) (h : at + 3 < length line) (d : Bool) where
   -- two digits, and a space
-  pub near-two : (x w : ℕ) → w ≡ x → d ≡ is_digit (get_or line (at + 2) 0) → d ≡ true → get_or line (at + 3) 0 ≡ 32
+  pub near-two : (x w : ℕ) → w ≡ x → d ≡ is_ascii_digit (get_or line (at + 2) 0) → d ≡ true → get_or line (at + 3) 0 ≡ 32
       → (x ≤ 99 → x + 528 ≡ get_or line (at + 1) 0 * 10 + get_or line (at + 2) 0) → x ≤ 99 → Near line at (found w (at + 3))
   unfolding field_by first_by tag
   near-two x w e k u s v l =
-      let b : is_digit (get_or line (at + 2) 0) ≡ true = sym k ∙ u in
+      let b : is_digit (get_or line (at + 2) 0) ≡ true = digit-yes (get_or line (at + 2) 0) d k u in
       let p : at + 1 + 1 ≡ at + 2 = omega arith in
       let q : at + 2 + 1 ≡ at + 3 = omega arith in
       let m : at + 1 + 2 ≡ at + 3 = omega arith in
       record {
-        cell-is = λ z. sym (rw (
+        cell-is = sym (rw (
           after-step space line at (omega arith),
           part_step space line (at + 1) (omega arith) (λ w. omega (arith, v l, digit-high (get_or line (at + 2) 0) b)),
           p,
@@ -148,18 +163,18 @@ module _ (line : List ℕ) (at : ℕ) (h : at + 3 < length line) (d : Bool) wher
           m,
           e,
         ));
-        inside = λ z. h;
+        inside = h;
       }
 
   -- a digit, and a space
-  pub near-one : (y : ℕ) → d ≡ is_digit (get_or line (at + 1) 0) → d ≡ true → get_or line (at + 2) 0 ≡ 32 → y ≡ get_or line (at + 1) 0 - 48
+  pub near-one : (y : ℕ) → d ≡ is_ascii_digit (get_or line (at + 1) 0) → d ≡ true → get_or line (at + 2) 0 ≡ 32 → y ≡ get_or line (at + 1) 0 - 48
       → Near line at (found y (at + 2))
   unfolding field_by first_by tag
   near-one y k u s e =
-      let b : is_digit (get_or line (at + 1) 0) ≡ true = sym k ∙ u in
+      let b : is_digit (get_or line (at + 1) 0) ≡ true = digit-yes (get_or line (at + 1) 0) d k u in
       let p : at + 1 + 1 ≡ at + 2 = omega arith in
       record {
-        cell-is = λ z. sym (rw (
+        cell-is = sym (rw (
           after-step space line at (omega arith),
           part_step space line (at + 1) (omega arith) (digit-no-space (get_or line (at + 1) 0) b),
           p,
@@ -168,5 +183,5 @@ module _ (line : List ℕ) (at : ℕ) (h : at + 3 < length line) (d : Bool) wher
           p,
           e,
         ));
-        inside = λ z. omega arith;
+        inside = omega arith;
       }

@@ -1,8 +1,11 @@
 -- Laws of the code that gathers lines: blocks without a newline, bytes copied, and a line fed.
-use Rattle.std.proofs.Common.{◌≡◌, ℕ, zero, suc, ◌+◌, ◌-◌, ◌<◌, ◌≤◌, min, Bool, true, false, ◌||◌, eqb, List, [], ◌∷◌, ◌++◌, length, get_or, take, drop, set, sym, refl, ap, ◌∙◌, append_assoc, append-nil, add-one, arith, length-append, length-set, drop_of_length-le, length-take, length-take-le, take_all, drop-cons, take-suc, take-take, drop-drop, take_at}
+use Rattle.std.proofs.Common.{◌≡◌, ℕ, zero, suc, ◌+◌, ◌-◌, ◌<◌, ◌≤◌, min, Bool, true, false, ◌||◌, eqb, List, [], ◌∷◌, ◌++◌, length, get_or, take, drop, sym, refl, ap, ◌∙◌, append_assoc, append-nil, add-one, arith, length-append, drop_of_length-le, length-take, length-take-le, take_all, drop-cons, take-suc, take-take, drop-drop, take_at}
 use mathlib.Core.Bool.{or-false, or_assoc}
 use borrow.Author.Tests.{eqb-false}
-use lib.Seq.{sets, sets-eq, take-append-add, take-nil}
+use Rattle.std.specs.Prelude.{Some, None}
+use borrow.Rule.Slice.PartMut.{put_mid}
+use Rattle.std.proofs.lemmas.Slice.{put_mid-paste}
+use lib.Seq.{sets, sets-eq, length-sets, take-append-add, take-nil}
 use Rattle.fields.specs.Split.{newline}
 use Rattle.fields.specs.Places.{up_to, part_at, end_at}
 use Rattle.text.specs.Feed.{cut, pend, has_byte, Gathered, whole_line, Feeds}
@@ -49,30 +52,9 @@ block-step l from i r w h k e q =
     let z : i + 64 - i ≡ 64 = omega arith in
     w ∙ pass newline l 64 i (omega arith) (ap (λ (n : ℕ). has_byte newline (take n (drop i l))) (sym z) ∙ sym e ∙ q)
 
-pub ends_same : (s : ℕ) (l : List ℕ) (from i j r : ℕ) → end_at s l from ≡ end_at s l i → (j ≤ length l) × (end_at s l i ≡ end_at s l j)
-    → r ≡ end_at s l j → r ≡ end_at s l from
-ends_same s l from i j r w v e = e ∙ sym (w ∙ v.1)
-
--- ---- bytes copied: what is there, and what is still to come
-
-pub record Copying (entry out part : List ℕ) (at i : ℕ) : Type 0 where
-  pub list-is : sets entry at part ≡ sets out (at + i) (drop i part)
-  pub room : length out ≡ length entry
-
-pub copying-none : (d part : List ℕ) (at : ℕ) → Copying d d part at 0
-copying-none d part at = let z : at + 0 ≡ at = omega arith in record { list-is = rw z; room = refl }
-
-module _ (d out part : List ℕ) (at i : ℕ) (g : Copying d out part at i) where
-  pub copying-step : i < length part → Copying d (set out (at + i) (get_or part i 0)) part at (i + 1)
-  copying-step h =
-      let p : at + (i + 1) ≡ suc (at + i) = omega arith in
-      record {
-        list-is = g.list-is ∙ rw (drop-cons part i 0 h, p, add-one);
-        room = length-set out (at + i) (get_or part i 0) ∙ g.room;
-      }
-
-  pub copying-end : length part ≤ i → out ≡ sets d at part
-  copying-end h = sym (g.list-is ∙ rw (drop_of_length-le part {i = i} h))
+pub ends_same : (s : ℕ) (l : List ℕ) (from i k j r : ℕ) → end_at s l from ≡ end_at s l i → i ≡ k
+    → (j ≤ length l) × (end_at s l k ≡ end_at s l j) → r ≡ end_at s l j → r ≡ end_at s l from
+ends_same s l from i k j r w z v e = e ∙ sym (w ∙ ap (end_at s l) z ∙ v.1)
 
 -- ---- gathered
 
@@ -83,14 +65,20 @@ take_min (suc a) (x ∷ l) =
     let z : min (suc a) (suc (length l)) ≡ suc (min a (length l)) = omega arith in
     rw z (ap (λ (r : List ℕ). x ∷ r) (take_min a l))
 
-pub gathered : (d part f : List ℕ) (len n : ℕ) → n ≡ min (length d - len) (length part) → f ≡ sets d len (take n part)
-    → length f ≡ length d → Gathered d len part f (len + n)
-gathered d part f len n e h k =
-    let t : take n part ≡ take (length d - len) part = rw (e, take_min (length d - len) part) in
+-- what is copied to the places from len to e
+pub gathered : (d part p : List ℕ) (len e : ℕ) → len ≤ length d → e ≡ min (length d) (len + length part) → p ≡ take (e - len) part
+    → Gathered d len part (put_mid len (e - len) d p) e
+gathered d part p len e h m q =
+    let n : e - len ≡ min (length d - len) (length part) = omega arith in
+    let t : take (e - len) part ≡ take (length d - len) part = rw n (take_min (length d - len) part) in
+    let k : p ≡ take (length d - len) part = q ∙ t in
+    let z : length p ≡ e - len = rw k (omega (arith, length-take (length d - len) part)) in
+    let w : put_mid len (e - len) d p ≡ sets d len p
+    = put_mid-paste len (e - len) d p p (length p) refl z refl ∙ rw (take_all (length p) p (omega arith)) (sym (sets-eq p d len (omega arith))) in
     record {
-      list-is = h ∙ rw t;
+      list-is = w ∙ rw k;
       place_is = omega (arith, length-take (length d - len) part);
-      room = k;
+      room = rw w (length-sets d len p);
     }
 
 -- what is then held: the pending bytes and the part, as far as there is room
@@ -185,7 +173,7 @@ module _ (d bytes f : List ℕ) (len at e n : ℕ) (h : e ≡ end_at newline byt
   held : take n f ≡ take (length d) (take len d ++ part_at newline bytes at)
   held = gathered-held d (span at e bytes) f len n l g ∙ rw (span-part newline bytes at e h)
 
-  pub feeds-whole : e < length bytes → Feeds d len bytes at f (record { whole = true; line = n; len = 0; next = e + 1 })
+  pub feeds-whole : e < length bytes → Feeds d len bytes at f (record { line = Some n; len = 0; next = e + 1 })
   unfolding whole_line
   feeds-whole k =
       record {
@@ -198,7 +186,7 @@ module _ (d bytes f : List ℕ) (len at e n : ℕ) (h : e ≡ end_at newline byt
         within = omega arith;
       }
 
-  pub feeds-part : length bytes ≤ e → at < length bytes → Feeds d len bytes at f (record { whole = false; line = 0; len = n; next = e })
+  pub feeds-part : length bytes ≤ e → at < length bytes → Feeds d len bytes at f (record { line = None; len = n; next = e })
   unfolding whole_line cut pend
   feeds-part k i =
       let z : drop e bytes ≡ [] = drop_of_length-le bytes {i = e} k in
@@ -208,7 +196,7 @@ module _ (d bytes f : List ℕ) (len at e n : ℕ) (h : e ≡ end_at newline byt
             rw (pend-last bytes (take len d) at e h k, z, held)
             (sym (take-take (length d) (length d) (take len d ++ part_at newline bytes at) (omega arith)));
         room = g.room;
-        line-fits = omega arith;
+        line-fits = tt;
         len-fits = gathered-fits d (span at e bytes) f len n l g;
         goes_on = omega arith;
         within = rw h (end_fits newline bytes at (omega arith));

@@ -1,125 +1,135 @@
 -- Laws of a request: its numbers read one after another, and a column's.
-use Rattle.std.proofs.Common.{◌≡◌, ℕ, ◌+◌, ◌<◌, ◌≤◌, List, length, sym, refl, ◌∙◌, arith}
+use Rattle.std.proofs.Common.{◌≡◌, ℕ, suc, ◌+◌, ◌<◌, ◌≤◌, cond, eqb, List, ◌++◌, length, take, set, sym, refl, ◌∙◌, append_assoc, append-nil, add-one, arith, eq-eqb, ne_eqb, take_all}
 use mathlib.Core.Option.{Option, none, some}
-use lib.Seq.{sets}
+use lib.Seq.{sets, take-suc-set}
+use Rattle.std.specs.Prelude.{Some, None}
+use Rattle.std.specs.Prelude as std
 use Rattle.fields.specs.declared.Field.{Field}
-use Rattle.text.specs.declared.cells.Cells.{Cells}
-use Rattle.text.specs.declared.cells.Cells.TheVariants as cells
-use Rattle.text.specs.declared.words.Word.TheVariants as word
-use Rattle.text.specs.declared.requests.Request.{Request}
+use Rattle.text.specs.declared.requests.Request.TheVariants as request
 use Rattle.fields.specs.Split.{space}
 use Rattle.fields.specs.Number.{number}
-use Rattle.text.specs.Parse.{with_first, each, when_all, and_then, no_more, small, both, column}
+use Rattle.text.specs.Parse.{with_first, each, small, both, column}
 use Rattle.fields.specs.Places.{part_at, end_at, after, field_by}
 use Rattle.text.specs.Cells.{byte_of, counted, Stored}
-use Rattle.text.specs.Asked.{if_read, column_bytes, ask, unreadable, or_unread, Columned}
+use Rattle.text.specs.Asked.{if_read, column_bytes, exactly, or_unread, Columned}
 use Rattle.fields.proofs.SplitLaws.{after-end, after-step}
 use Rattle.fields.proofs.FieldLaws.{Took, took, Stuck, stuck, nothing_left, not-read}
-use Rattle.text.proofs.ColumnLaws.{number-below, small-below}
 
--- ---- the numbers after a place: q is what a function returns, `more` what the numbers after the next one make of it
+-- ---- n numbers after a place: i of them are read, and stand at the front of `out`
 
-abbrev numbers_at : List ℕ → ℕ → Option (List ℕ)
+abbrev pub numbers_at : List ℕ → ℕ → Option (List ℕ)
 numbers_at line at = each number (after space line at)
 
--- the first number is handed on
-first_then : {A : Type 0} (more : ℕ → List ℕ → Option A) (a : ℕ) (o : Option (List ℕ))
-    → when_all (and_then more) (with_first (some a) o) ≡ when_all (more a) o
-unfolding when_all and_then with_first
-first_then more a none = refl
-first_then more a (some l) = refl
+-- what those and the others make
+unfoldable pub with_rest : ℕ → List ℕ → ℕ → Option (List ℕ) → std.Option (List ℕ)
+with_rest n out i none = None
+with_rest n out i (some l) = cond (eqb (i + length l) n) (Some (take i out ++ l)) None
 
--- a field more is one too many
-first_ends : {A : Type 0} (x : A) (o : Option ℕ) (p : Option (List ℕ)) → when_all (no_more x) (with_first o p) ≡ none
-unfolding when_all no_more with_first
-first_ends x none p = refl
-first_ends x (some a) none = refl
-first_ends x (some a) (some l) = refl
+-- one more of them
+rest-more : (n : ℕ) (out : List ℕ) (i x : ℕ) (o : Option (List ℕ)) → i < length out
+    → with_rest n out i (with_first (some x) o) ≡ with_rest n (set out i x) (i + 1) o
+unfolding with_rest with_first
+rest-more n out i x none h = refl
+rest-more n out i x (some l) h =
+    let z : i + suc (length l) ≡ i + 1 + length l = omega arith in
+    rw (z, add-one i, take-suc-set out i x h, append_assoc)
 
-module _ (line : List ℕ) (at : ℕ) (r : Field) (e : r ≡ field_by number line at) where
-  pub next-within : r.value ≤ 9999 → r.next ≤ length line
-  next-within h = (took number 9999 number-below line at r e h).within
+-- one too many
+rest-over : (n : ℕ) (out : List ℕ) (i : ℕ) (o : Option ℕ) (p : Option (List ℕ)) → i ≡ n → None ≡ with_rest n out i (with_first o p)
+unfolding with_rest with_first
+rest-over n out i none p h = refl
+rest-over n out i (some x) none h = refl
+rest-over n out i (some x) (some l) h = rw (ne_eqb (i + suc (length l)) n (λ e. omega arith))
 
-  module _ (q : Request) (more : ℕ → List ℕ → Option Request) where
-    -- there is no next number
-    pub number-stuck : q ≡ unreadable → 9999 < r.value → q ≡ or_unread (when_all (and_then more) (numbers_at line at))
-    unfolding each with_first when_all and_then or_unread
-    number-stuck u h = u ∙ go (stuck number 9999 number-below line at r e h)
-      where
-        go : Stuck number line at → unreadable ≡ or_unread (when_all (and_then more) (each number (after space line at)))
-        go (nothing_left p) = rw p
-        go (not-read f fs p b) = rw (p, b)
+pub numbers-none : (n : ℕ) (line out : List ℕ) (at : ℕ) → exactly n (numbers_at line at) ≡ with_rest n out 0 (numbers_at line at)
+unfolding exactly with_rest
+numbers-none n line out at = go (numbers_at line at)
+  where
+    go : (o : Option (List ℕ)) → exactly n o ≡ with_rest n out 0 o
+    go none = refl
+    go (some l) = let z : 0 + length l ≡ length l = omega arith in rw z
 
-    -- there is one: the others make the rest of it
-    pub number-next : r.value ≤ 9999 → q ≡ or_unread (when_all (more r.value) (numbers_at line r.next))
-        → q ≡ or_unread (when_all (and_then more) (numbers_at line at))
+module _ (n : ℕ) (line out : List ℕ) (i next : ℕ) (w : std.Option (List ℕ)) (v : w ≡ with_rest n out i (numbers_at line next)) where
+  -- there is a next number
+  module _ (r : Field) (e : Some r ≡ field_by number line next) where
+    pub number-within : r.next ≤ length line
+    number-within = (took number line next r e).within
+
+    pub number-next : i < length out → w ≡ with_rest n (set out i r.value) (i + 1) (numbers_at line r.next)
     unfolding each
-    number-next h g =
-        let t = took number 9999 number-below line at r e h in
-        rw (t.fields, t.is, first_then more r.value (numbers_at line r.next)) g
+    number-next h =
+        let t = took number line next r e in
+        v ∙ rw (t.fields, t.is) (rest-more n out i r.value (numbers_at line r.next) h)
 
-module _ (line : List ℕ) (at : ℕ) (x q : Request) where
+  -- there is none
+  pub number-stuck : None ≡ field_by number line next → i < n → None ≡ w
+  unfolding each with_first with_rest
+  number-stuck e h = sym (v ∙ go (stuck number line next e))
+    where
+      go : Stuck number line next → with_rest n out i (numbers_at line next) ≡ None
+      go (nothing_left p) = rw (p, ne_eqb (i + 0) n (λ e. omega arith))
+      go (not-read f fs p b) = rw (p, b)
+
   -- a field too many
-  pub numbers-over : at < length line → q ≡ unreadable → q ≡ or_unread (when_all (no_more x) (numbers_at line at))
-  unfolding each or_unread
-  numbers-over h u =
-      u
-      ∙ rw (
-        after-step space line at h,
-        first_ends x (number (part_at space line (at + 1))) (each number (after space line (end_at space line (at + 1)))),
-      )
+  pub numbers-over : i ≡ n → next < length line → None ≡ w
+  unfolding each
+  numbers-over h l =
+      let o = number (part_at space line (next + 1)) in
+      let p = each number (after space line (end_at space line (next + 1))) in
+      rest-over n out i o p h ∙ sym (v ∙ rw (after-step space line next l))
 
   -- no more fields
-  pub numbers-all : length line ≤ at → x ≡ or_unread (when_all (no_more x) (numbers_at line at))
-  unfolding each when_all no_more or_unread
-  numbers-all h = rw (after-end space line at h)
+  pub numbers-all : i ≡ n → length out ≡ n → length line ≤ next → Some out ≡ w
+  unfolding each with_rest
+  numbers-all h k l = sym (v ∙ rw (after-end space line next l, eq-eqb (i + 0) n (omega arith), append-nil, take_all i out (omega arith)))
 
 -- ---- the returns of the request of a column
 
-count-not : (r : Cells) (o : Option (List ℕ)) → r ≡ counted 0 o → r ≡ cells.Bad → o ≡ none
+count-not : (o : Option (List ℕ)) → None ≡ counted 0 o → o ≡ none
 unfolding counted
-count-not r none e h = refl
-count-not r (some l) e h = let z = sym h ∙ e in cc
+count-not none e = refl
+count-not (some l) e = cc
 
-count-is : (r : Cells) (o : Option (List ℕ)) (n : ℕ) (c : ℕ) → r ≡ counted 0 o → r ≡ cells.Count n
-    → ask word.Column c n 0 ≡ or_unread (both (λ c l. ask word.Column c (length l) 0) (some c) o)
+count-is : (o : Option (List ℕ)) (n c : ℕ) → Some n ≡ counted 0 o
+    → Some (request.Column c n) ≡ or_unread (both (λ c l. request.Column c (length l)) (some c) o)
 unfolding counted both or_unread
-count-is r none n c e h = let z = sym h ∙ e in cc
-count-is r (some l) n c e h =
-    let z = sym h ∙ e in
+count-is none n c e = cc
+count-is (some l) n c e =
     let k : n ≡ 0 + length l = cc in
     let m : n ≡ length l = omega arith in
     rw m
 
-module _ (line : List ℕ) (at : ℕ) (entry : List ℕ) (r : Field) (e : r ≡ field_by small line at) where
-  pub column-stuck : (q : Request) → q ≡ unreadable → 254 < r.value → Columned line at entry entry q
+module _ (line : List ℕ) (at : ℕ) (entry : List ℕ) where
+  pub column-stuck : None ≡ field_by small line at → Columned line at entry entry None
   unfolding column_bytes if_read column both or_unread
-  column-stuck q u h = go (stuck small 254 small-below line at r e h)
+  column-stuck e = go (stuck small line at e)
     where
-      go : Stuck small line at → Columned line at entry entry q
-      go (nothing_left p) = record { bytes-are = rw p; request-is = u ∙ rw p }
-      go (not-read f fs p b) = record { bytes-are = rw (p, b); request-is = u ∙ rw (p, b) }
+      go : Stuck small line at → Columned line at entry entry None
+      go (nothing_left p) = record { bytes-are = rw p; request-is = rw p }
+      go (not-read f fs p b) = record { bytes-are = rw (p, b); request-is = rw (p, b) }
 
-  module _ (h : r.value ≤ 254) (exit : List ℕ) (s : Cells) (g : Stored line r.next entry exit s) where
+  module _ (r : Field) (e : Some r ≡ field_by small line at) where
     the : Took small line at r
-    the = took small 254 small-below line at r e h
+    the = took small line at r e
 
-    stored : exit ≡ sets entry 0 (column_bytes (after space line at))
-    unfolding column_bytes if_read
-    stored = g.bytes-are ∙ rw (the.fields, the.is)
+    module _ (exit : List ℕ) (s : std.Option ℕ) (g : Stored line r.next entry exit s) where
+      stored : exit ≡ sets entry 0 (column_bytes (after space line at))
+      unfolding column_bytes if_read
+      stored = g.bytes-are ∙ rw (the.fields, the.is)
 
-    pub column-bad : (q : Request) → q ≡ unreadable → s ≡ cells.Bad → Columned line at entry exit q
+    pub column-bad : (exit : List ℕ) → Stored line r.next entry exit None → Columned line at entry exit None
     unfolding column both or_unread
-    column-bad q u k =
+    column-bad exit g =
         record {
-          bytes-are = stored;
-          request-is = u ∙ rw (the.fields, the.is, count-not s (each byte_of (after space line r.next)) g.count-is k);
+          bytes-are = stored exit None g;
+          request-is = rw (the.fields, the.is, count-not (each byte_of (after space line r.next)) g.count-is);
         }
 
-    pub column-is : (n : ℕ) → s ≡ cells.Count n → Columned line at entry exit (ask word.Column r.value n 0)
+    pub column-is : (exit : List ℕ) (n : ℕ) → Stored line r.next entry exit (Some n)
+        → Columned line at entry exit (Some (request.Column r.value n))
     unfolding column
-    column-is n k =
+    column-is exit n g =
         record {
-          bytes-are = stored;
-          request-is = rw (the.fields, the.is) (count-is s (each byte_of (after space line r.next)) n r.value g.count-is k);
+          bytes-are = stored exit (Some n) g;
+          request-is = rw (the.fields, the.is) (count-is (each byte_of (after space line r.next)) n r.value g.count-is);
         }

@@ -3,7 +3,8 @@ use Rattle.std.proofs.Common.{◌≡◌, ℕ, zero, suc, ◌+◌, ◌-◌, ◌*�
 use mathlib.Core.Bool.{and-eq-true_iff}
 use mathlib.Core.Option.{some}
 use Rattle.bits.proofs.Cases.{eq-cases, lt-cases}
-use Rattle.text.specs.declared.cells.Cells.TheVariants as cells
+use Rattle.std.specs.Prelude.{Some}
+use Rattle.std.specs.Char.{is_ascii_digit}
 use Rattle.fields.specs.Split.{space}
 use Rattle.fields.specs.Number.{is_digit}
 use Rattle.fields.specs.Places.{part_at, found, tag, first_by, field_by}
@@ -11,7 +12,7 @@ use Rattle.text.specs.Cells.{byte_of, Stored, Filling}
 use Rattle.text.specs.Short.{short_known, short_value, turned_bytes, Turned, Short}
 use Rattle.fields.proofs.SplitLaws.{part_end, part-here, part_step, after-step}
 use Rattle.text.proofs.CellLaws.{byte-digit, byte-dash}
-use Rattle.fields.proofs.NumberLaws.{digit_low, digit-high}
+use Rattle.fields.proofs.NumberLaws.{digit_low}
 use Rattle.text.proofs.ColumnLaws.{filling-none, filling_step, filling-end}
 
 -- ---- one byte
@@ -40,8 +41,8 @@ known-no-space : (b : ℕ) → short_known b ≡ true → b ≡ 32 → ⊥
 unfolding short_known is_digit
 known-no-space b h e = true≢false (sym h ∙ ap (λ (x : ℕ). (leb 48 x && leb x 57) || eqb x 45) e)
 
-pub known_is : (b : ℕ) (d : Bool) → d ≡ is_digit b → d || eqb b 45 ≡ short_known b
-unfolding short_known
+pub known_is : (b : ℕ) (d : Bool) → d ≡ is_ascii_digit b → d || eqb b 45 ≡ short_known b
+unfolding short_known is_digit
 known_is b d e = rw e
 
 pub turned-space : (a b : ℕ) (r : Bool) → a ≡ 32 → r ≡ short_known b → r ≡ turned_bytes a b
@@ -69,10 +70,9 @@ turned_more line a j ok r f q e i h l = go (lt-cases i j)
     go (inr m) = let z : i ≡ j = omega arith in ap (λ (x : ℕ). turned_bytes (get_or line x 0) (get_or line (x + 1) 0)) z ∙ sym q
         ∙ ((and-eq-true_iff ok r).0 e).1
 
-pub turned-all : (line : List ℕ) (a n e j : ℕ) (ok : Bool) → (ok ≡ true → Turned line a j) → e ≡ a + n → e ≤ j → ok ≡ true
-    → Turned line a (a + n)
+pub turned-all : (line : List ℕ) (a n j : ℕ) (ok : Bool) → (ok ≡ true → Turned line a j) → a + n ≤ j → ok ≡ true → Turned line a (a + n)
 unfolding Turned
-turned-all line a n e j ok f q h t i l m = f t i l (omega arith)
+turned-all line a n j ok f h t i l m = f t i l (omega arith)
 
 -- ---- turns from a space on
 
@@ -149,17 +149,9 @@ module _ (line : List ℕ) (at b : ℕ) (h : at + 2 ≤ length line) (e : b ≡ 
   short-part =
       part_step space line (at + 1) (omega arith) (λ z. known-no-space b k (e ∙ z)) ∙ rw (rest-none) (ap (λ (x : ℕ). x ∷ []) (sym e))
 
-  short-cell : found (short_value b) (at + 2) ≡ field_by byte_of line at
+  short-cell : Some (found (short_value b) (at + 2)) ≡ field_by byte_of line at
   unfolding field_by first_by tag
   short-cell = let p : at + 1 + 1 ≡ at + 2 = omega arith in rw (after-step space line at (omega arith), short-part, byte-is, p)
-
-  value_low : short_value b ≤ 255
-  unfolding short_value
-  value_low = go (eq-cases b 45)
-    where
-      go : (b ≡ 45) ⊎ (b ≡ 45 → ⊥) → cond (eqb b 45) 255 (b - 48) ≤ 255
-      go (inl z) = rw (eq-eqb b 45 z) (omega arith)
-      go (inr z) = rw (ne_eqb b 45 z) (omega (arith, digit-high b (digit-of b k z)))
 
 -- ---- the loop that stores them
 
@@ -180,9 +172,8 @@ module _ (line entry col : List ℕ) (start m k : ℕ) (f : Short line start) (q
       = λ z. ap (λ (x : ℕ). get_or line x 0) n ∙ f.spaces (k + 1) (omega arith) in
       let r : Filling line start 0 entry (set col k (short_value b)) (start + 2 * k + 2) (k + 1)
       = filling_step line entry col start 0 (start + 2 * k) k g (found (short_value b) (start + 2 * k + 2))
-      (short-cell line (start + 2 * k) b (omega (arith, f.even)) refl (short-known line start m k f q l) w)
-      (value_low line (start + 2 * k) b (omega (arith, f.even)) refl (short-known line start m k f q l) w) in
+      (short-cell line (start + 2 * k) b (omega (arith, f.even)) refl (short-known line start m k f q l) w) in
       rw (e, ← n) r
 
-  pub short-end : Filling line start 0 entry col (start + 2 * k) k → k ≤ m → m ≤ k → Stored line start entry col (cells.Count m)
+  pub short-end : Filling line start 0 entry col (start + 2 * k) k → k ≤ m → m ≤ k → Stored line start entry col (Some m)
   short-end g h l = let z : m ≡ k = omega arith in rw z (filling-end line entry col start (start + 2 * k) k g (omega (arith, f.even)))

@@ -2,6 +2,7 @@
 use Rattle.std.proofs.Common.{◌≡◌, ℕ, Bool, true, false, eqb, List, [], ◌∷◌, sym, refl, ◌∙◌, eq-eqb, eqb-true}
 use mathlib.Core.Bool.{and-eq-true_iff}
 use Rattle.bits.proofs.Cases.{same_truth}
+use Rattle.std.specs.Prelude.{Option, Some}
 use Rattle.text.specs.declared.words.Word.{Word}
 use Rattle.text.specs.Bytes.{same}
 use Rattle.text.specs.Words.{or_word}
@@ -28,10 +29,10 @@ same-is r a b h = same_truth r (same a b) (λ e. rw (h.0 e) (same_refl b)) (λ e
 
 -- ---- a chain of tests
 
-pub here : (r b : Bool) (w v : Word) → r ≡ b → r ≡ true → w ≡ or_word b w v
+pub here : (r b : Bool) (w : Word) (v : Option Word) → r ≡ b → r ≡ true → Some w ≡ or_word b w v
 unfolding or_word
 here r b w v e h = rw (sym e ∙ h)
 
-pub past : (r b : Bool) (w v u : Word) → r ≡ b → r ≡ false → w ≡ v → w ≡ or_word b u v
+pub past : (r b : Bool) (w : Word) (v o : Option Word) → r ≡ b → r ≡ false → o ≡ v → o ≡ or_word b w v
 unfolding or_word
-past r b w v u e h g = rw (sym e ∙ h) g
+past r b w v o e h g = rw (sym e ∙ h) g

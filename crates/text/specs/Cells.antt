@@ -1,9 +1,8 @@
 -- The values of a column as bytes: a value, or 255 for absent.
-use Rattle.std.specs.Prelude.{◌≡◌, ℕ, ◌+◌, ◌*◌, ◌<◌, ◌≤◌, cond, List, [], ◌∷◌, length}
+use Rattle.std.specs.Prelude.{◌≡◌, ℕ, ◌+◌, ◌*◌, ◌<◌, ◌≤◌, cond, List, [], ◌∷◌, length, Some, None}
+use Rattle.std.specs.Prelude as std
 use Rattle.std.proofs.Math.Option.{Option, none, some}
 use Rattle.std.proofs.lemmas.List.Edits.{sets}
-use Rattle.text.specs.declared.cells.Cells.{Cells}
-use Rattle.text.specs.declared.cells.Cells.TheVariants as cells
 use Rattle.text.specs.declared.cells.Run.{Run}
 use Rattle.fields.specs.declared.Field.{Field}
 use Rattle.text.specs.Bytes.{bytes, same}
@@ -25,13 +24,13 @@ unfoldable pub bytes_of : List (List ℕ) → List ℕ
 bytes_of [] = []
 bytes_of (f ∷ fs) = or_end (byte_of f) (bytes_of fs)
 
--- how many bytes, n of them counted before
-unfoldable pub counted : ℕ → Option (List ℕ) → Cells
-counted n none = cells.Bad
-counted n (some l) = cells.Count (n + length l)
+-- how many bytes, n of them counted before, if all are
+unfoldable pub counted : ℕ → Option (List ℕ) → std.Option ℕ
+counted n none = None
+counted n (some l) = Some (n + length l)
 
 -- the fields of a line after a place as a column's bytes: those up to one that is none are stored, and all are counted
-pub record Stored (line : List ℕ) (at : ℕ) (entry exit : List ℕ) (r : Cells) : Type 0 where
+pub record Stored (line : List ℕ) (at : ℕ) (entry exit : List ℕ) (r : std.Option ℕ) : Type 0 where
   pub bytes-are : exit ≡ sets entry 0 (bytes_of (after space line at))
   pub count-is : r ≡ counted 0 (each byte_of (after space line at))
 
@@ -49,7 +48,7 @@ pub record Ran (line : List ℕ) (start k : ℕ) (entry exit : List ℕ) (r : Ru
   pub filled : Filling line start k entry exit r.at r.n
   pub inside : r.at < length line
 
--- what is read of a cell is the cell, and the line goes on after it, unless nothing was read
+-- what is read of a cell is the cell, and the line goes on after it
 pub record Near (line : List ℕ) (at : ℕ) (r : Field) : Type 0 where
-  pub cell-is : r.value ≤ 255 → r ≡ field_by byte_of line at
-  pub inside : r.value ≤ 255 → r.next < length line
+  pub cell-is : Some r ≡ field_by byte_of line at
+  pub inside : r.next < length line

@@ -1,5 +1,5 @@
 -- An input that comes in chunks: the lines that a chunk ends, and the bytes that wait for their newline.
-use Rattle.std.specs.Prelude.{◌≡◌, ℕ, ◌+◌, ◌-◌, ◌<◌, ◌≤◌, Bool, true, false, cond, ◌||◌, List, [], ◌∷◌, ◌++◌, map, length, take, drop, ◌==◌}
+use Rattle.std.specs.Prelude.{◌≡◌, ℕ, ◌+◌, ◌-◌, ◌<◌, ◌≤◌, Bool, false, cond, ◌||◌, List, [], ◌∷◌, ◌++◌, map, length, take, drop, ◌==◌, Option, Some, None, IfSome}
 use Rattle.std.proofs.lemmas.List.Edits.{sets}
 use Rattle.text.specs.declared.feed.Fed.{Fed}
 use Rattle.fields.specs.Split.{newline}
@@ -27,20 +27,20 @@ pub record Gathered (entry : List ℕ) (len : ℕ) (part exit : List ℕ) (r : �
   pub place_is : r ≡ len + length (take (length entry - len) part)
   pub room : length exit ≡ length entry
 
--- a line that is whole, or none
-unfoldable pub whole_line : Bool → List ℕ → List (List ℕ)
-whole_line true l = l ∷ []
-whole_line false l = []
+-- a line that is whole, the first n bytes held, or none
+unfoldable pub whole_line : Option ℕ → List ℕ → List (List ℕ)
+whole_line None held = []
+whole_line (Some n) held = take n held ∷ []
 
 -- of a chunk from `at` on after the first `len` bytes of `entry`, which holds as many bytes as it has: the line that was
 -- fed, where it is whole, and then the lines and pending bytes of what is left from `next` on
 pub record Feeds (entry : List ℕ) (len : ℕ) (bytes : List ℕ) (at : ℕ) (exit : List ℕ) (r : Fed) : Type 0 where
   pub lines_are : map (take (length entry)) (cut (take len entry) (drop at bytes))
-      ≡ whole_line r.whole (take r.line exit) ++ map (take (length entry)) (cut (take r.len exit) (drop r.next bytes))
+      ≡ whole_line r.line exit ++ map (take (length entry)) (cut (take r.len exit) (drop r.next bytes))
   pub pending-is : take (length entry) (pend (take len entry) (drop at bytes))
       ≡ take (length entry) (pend (take r.len exit) (drop r.next bytes))
   pub room : length exit ≡ length entry
-  pub line-fits : r.line ≤ length entry
+  pub line-fits : IfSome r.line (λ n. n ≤ length entry)
   pub len-fits : r.len ≤ length entry
   pub goes_on : at < r.next
   pub within : r.next ≤ length bytes

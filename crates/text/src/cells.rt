@@ -1,5 +1,5 @@
 // The values of a column.
-ghost use Rattle.std.specs.Prelude.{◌≡◌, ◌+◌, ◌*◌, ◌<◌, ◌≤◌, true, length};
+ghost use Rattle.std.specs.Prelude.{◌≡◌, ◌+◌, ◌*◌, ◌<◌, ◌≤◌, true, length, IfSome};
 ghost use Rattle.text.specs.Bytes.{bytes, same};
 ghost use Rattle.fields.specs.Split.{space};
 ghost use Rattle.text.specs.Parse.{small};
@@ -9,23 +9,19 @@ ghost use Rattle.text.specs.Short.{short_known, short_value, turned_bytes, Turne
 
 use fields::Field;
 
-// How many values a column has.
-#[derive(Clone, Copy)]
-pub enum Cells {
-    Count(usize),
-    Bad,
-}
+// What a number in a column is at most.
+const LARGEST_VALUE: u64 = 254;
 
-// The number up to 254 in the field after the space at `at`.
-pub fn small_at(line: &[u8], at: usize) -> Field
+// The number up to 254 in the field after the space at `at`, if it is one.
+pub fn small_at(line: &[u8], at: usize) -> Option<Field>
     requires { at ≤ length line.now }
     ensures { result ≡ field_by small line.now at }
 {
-    let got = fields::number_at(line, at);
-    if 254 < got.value {
-        return fields::nothing_read();
+    let got = fields::number_at(line, at)?;
+    if LARGEST_VALUE < got.value {
+        return None;
     }
-    got
+    Some(got)
 }
 
 // Whether the field after the space at `at` is `-`.
@@ -36,76 +32,69 @@ fn dash_at(line: &[u8], at: usize) -> bool
     if line.len() <= at + 1 {
         return false;
     }
-    if line[at + 1] != 45 {
+    if line[at + 1] != b'-' {
         return false;
     }
     if line.len() <= at + 2 {
         return true;
     }
-    if line[at + 2] == 32 {
+    if line[at + 2] == b' ' {
         return true;
     }
     false
 }
 
-// A cell after the space at `at`, of any length.
-fn long_cell(line: &[u8], at: usize) -> Field
+// A cell after the space at `at`, of any length, if it is one.
+fn long_cell(line: &[u8], at: usize) -> Option<Field>
     requires { at < length line.now }
     ensures { result ≡ field_by byte_of line.now at }
 {
     if dash_at(line, at) {
-        return Field {
+        return Some(Field {
             value: 255,
             next: at + 2,
-        };
+        });
     }
     small_at(line, at)
-}
-
-// A byte as a number.
-fn wide(b: u8) -> u32
-    ensures { result ≡ b }
-{
-    b as u32
 }
 
 // What two bytes say where both are digits: below 100 exactly where they are, if the second is one.
 fn two_value(a: u8, b: u8) -> u32
     ensures { result ≤ 99 → result + 528 ≡ a * 10 + b }
 {
-    std::num::wrapping_sub_u32(wide(a) * 10 + wide(b), 528)
+    (u32::from(a) * 10 + u32::from(b)).wrapping_sub(528)
 }
 
-// A cell of one digit or two between the space at `at` and a next one; nothing where none is told at once.
-fn near_cell(line: &[u8], at: usize) -> Field
+// A cell of one digit or two between the space at `at` and a next one; none where none is told at once.
+fn near_cell(line: &[u8], at: usize) -> Option<Field>
     requires { at + 3 < length line.now }
-    ensures { Near line.now at result }
+    ensures { IfSome result (Near line.now at) }
 {
     let a = line[at + 1];
     let b = line[at + 2];
-    if fields::is_digit(b) {
-        if line[at + 3] != 32 {
-            return fields::nothing_read();
+    if b.is_ascii_digit() {
+        if line[at + 3] != b' ' {
+            return None;
         }
         let x = two_value(a, b);
         if 99 < x {
-            return fields::nothing_read();
+            return None;
         }
-        return Field {
-            value: fields::wide(x as u8),
+        return Some(Field {
+            value: u64::from(x),
             next: at + 3,
-        };
+        });
     }
-    if b != 32 {
-        return fields::nothing_read();
+    if b != b' ' {
+        return None;
     }
-    if fields::is_digit(a) {
-        return Field {
-            value: fields::digit(a),
+    if a.is_ascii_digit() {
+        return Some(Field {
+            value: u64::from(a - b'0'),
             next: at + 2,
-        };
+        });
     }
-    fields::nothing_read()
+    None
 }
 
 // A place in a line, and how many cells stand before it.
@@ -123,19 +112,18 @@ fn run_into(line: &[u8], start: usize, column: &mut [u8], k: usize) -> Run
     let mut at = start;
     let mut n = k;
     while at + 3 < line.len() {
-        let cell = near_cell(line, at);
-        if 255 < cell.value {
-            return Run { at: at, n: n };
-        }
+        let Some(cell) = near_cell(line, at) else {
+            return Run { at, n };
+        };
         column[n] = cell.value as u8;
         n += 1;
         at = cell.next;
     }
-    Run { at: at, n: n }
+    Run { at, n }
 }
 
-// The cells after the space at `start`, into `column`: each takes two bytes of the line at least.
-fn cells_into(line: &[u8], start: usize, column: &mut [u8]) -> Cells
+// The cells after the space at `start`, into `column`, and how many they are, if all are: each takes two bytes of the line at least.
+fn cells_into(line: &[u8], start: usize, column: &mut [u8]) -> Option<usize>
     requires { length line.now ≤ start + 2 * length column.old }
     ensures { Stored line.now start column.old column.new result }
 {
@@ -143,23 +131,19 @@ fn cells_into(line: &[u8], start: usize, column: &mut [u8]) -> Cells
     let mut n: usize = 0;
     while at < line.len() {
         let run = run_into(line, at, column, n);
-        let cell = long_cell(line, run.at);
-        if 255 < cell.value {
-            return Cells::Bad;
-        }
-        let m = run.n;
-        column[m] = cell.value as u8;
-        n = m + 1;
+        let cell = long_cell(line, run.at)?;
+        column[run.n] = cell.value as u8;
+        n = run.n + 1;
         at = cell.next;
     }
-    Cells::Count(n)
+    Some(n)
 }
 
 // Whether a byte is a cell by itself: a digit, or `-`.
 fn short_known(b: u8) -> bool
     ensures { result ≡ short_known b }
 {
-    fields::is_digit(b) | (b == 45)
+    b.is_ascii_digit() | (b == b'-')
 }
 
 // The cell of such a byte.
@@ -167,14 +151,14 @@ fn short_value(b: u8) -> u8
     requires { short_known b ≡ true }
     ensures { result ≡ short_value b }
 {
-    if b == 45 { 255 } else { b - 48 }
+    if b == b'-' { 255 } else { b - b'0' }
 }
 
 // Whether a cell of one byte follows a space, and a space a cell.
 fn turned(a: u8, b: u8) -> bool
     ensures { result ≡ turned_bytes a b }
 {
-    if a == 32 { short_known(b) } else { b == 32 }
+    if a == b' ' { short_known(b) } else { b == b' ' }
 }
 
 // Whether each byte from `from` on, n of them, is followed so.
@@ -182,12 +166,9 @@ fn all_turned(line: &[u8], from: usize, n: usize) -> bool
     requires { from + n < length line.now }
     ensures { result ≡ true → Turned line.now from (from + n) }
 {
-    let e = from + n;
     let mut ok = true;
-    let mut j = from;
-    while j < e {
+    for j in from..from + n {
         ok = ok & turned(line[j], line[j + 1]);
-        j += 1;
     }
     ok
 }
@@ -210,28 +191,26 @@ fn all_short(line: &[u8], start: usize, c: u64) -> bool
         return false;
     }
     let before = start - 1;
-    if line[before] == 32 {
+    if line[before] == b' ' {
         return false;
     }
     all_turned(line, before, n)
 }
 
-// Such cells, into `column`.
-fn short_into(line: &[u8], start: usize, column: &mut [u8]) -> Cells
+// Such cells, into `column`, and how many they are.
+fn short_into(line: &[u8], start: usize, column: &mut [u8]) -> Option<usize>
     requires { (length line.now ≤ start + 2 * length column.old) × Short line.now start }
     ensures { Stored line.now start column.old column.new result }
 {
     let m = (line.len() - start) / 2;
-    let mut k: usize = 0;
-    while k < m {
+    for k in 0..m {
         column[k] = short_value(line[start + 2 * k + 1]);
-        k += 1;
     }
-    Cells::Count(m)
+    Some(m)
 }
 
-// The cells after the space at `start`, into `column`, of a column whose C is c.
-pub fn column_into(line: &[u8], start: usize, column: &mut [u8], c: u64) -> Cells
+// The cells after the space at `start`, into `column`, of a column whose C is c, and how many they are, if all are.
+pub fn column_into(line: &[u8], start: usize, column: &mut [u8], c: u64) -> Option<usize>
     requires { length line.now ≤ start + 2 * length column.old }
     ensures { Stored line.now start column.old column.new result }
 {

@@ -1,6 +1,5 @@
 // Lines gathered from chunks.
-ghost use Rattle.std.specs.Prelude.{◌≡◌, ◌+◌, ◌<◌, ◌≤◌, min, length};
-ghost use Rattle.std.proofs.lemmas.List.Edits.{sets};
+ghost use Rattle.std.specs.Prelude.{◌≡◌, ◌<◌, ◌≤◌, length};
 ghost use Rattle.fields.specs.Split.{newline};
 ghost use Rattle.fields.specs.Places.{end_at};
 ghost use Rattle.text.specs.Feed.{has_byte, Gathered, Feeds};
@@ -9,12 +8,9 @@ ghost use Rattle.text.specs.Feed.{has_byte, Gathered, Feeds};
 fn has_newline(bytes: &[u8]) -> bool
     ensures { result ≡ has_byte newline bytes.now }
 {
-    let n = bytes.len();
     let mut found = false;
-    let mut i: usize = 0;
-    while i < n {
-        found = found | (bytes[i] == b'\n');
-        i += 1;
+    for b in bytes {
+        found = found | (*b == b'\n');
     }
     found
 }
@@ -37,41 +33,19 @@ fn blocks_from(bytes: &[u8], from: usize) -> usize
     i
 }
 
-// The smaller of two numbers.
-fn smaller(a: usize, b: usize) -> usize
-    ensures { result ≡ min a b }
-{
-    if a < b { a } else { b }
-}
-
 // Where the line ends that goes on at `from`: at the next newline, or at the end. A short line is looked through byte by byte.
 pub fn newline_from(bytes: &[u8], from: usize) -> usize
     requires { from ≤ length bytes.now }
     ensures { result ≡ end_at newline bytes.now from }
 {
-    let stop = smaller(bytes.len(), from + 64);
-    let mut i = from;
-    while i < stop {
+    let stop = bytes.len().min(from + 64);
+    for i in from..stop {
         if bytes[i] == b'\n' {
             return i;
         }
-        i += 1;
     }
-    let j = blocks_from(bytes, i);
+    let j = blocks_from(bytes, stop);
     fields::end_from(bytes, j, b'\n')
-}
-
-// The bytes of `part` stand from `at` on.
-fn copy_at(pending: &mut [u8], at: usize, part: &[u8])
-    requires { at + length part.now ≤ length pending.old }
-    ensures { pending.new ≡ sets pending.old at part.now }
-{
-    let n = part.len();
-    let mut i: usize = 0;
-    while i < n {
-        pending[at + i] = part[i];
-        i += 1;
-    }
 }
 
 // The bytes of `part` after the `len` bytes pending, as far as there is room; how many are then pending.
@@ -79,17 +53,15 @@ pub fn gather(pending: &mut [u8], len: usize, part: &[u8]) -> usize
     requires { len ≤ length pending.old }
     ensures { Gathered pending.old len part.now pending.new result }
 {
-    let n = smaller(pending.len() - len, part.len());
-    copy_at(pending, len, &part[..n]);
-    len + n
+    let end = pending.len().min(len + part.len());
+    pending[len..end].copy_from_slice(&part[..end - len]);
+    end
 }
 
-// Whether a line is whole, which then is the first `line` bytes pending; how many are pending of the next one; where the
-// chunk goes on.
+// A line that is whole, if one is: the first so many bytes pending; how many are pending of the next one; where the chunk goes on.
 #[derive(Clone, Copy)]
 pub struct Fed {
-    pub whole: bool,
-    pub line: usize,
+    pub line: Option<usize>,
     pub len: usize,
     pub next: usize,
 }
@@ -103,15 +75,13 @@ pub fn feed_line(pending: &mut [u8], len: usize, bytes: &[u8], at: usize) -> Fed
     let n = gather(pending, len, &bytes[at..end]);
     if end < bytes.len() {
         return Fed {
-            whole: true,
-            line: n,
+            line: Some(n),
             len: 0,
             next: end + 1,
         };
     }
     Fed {
-        whole: false,
-        line: 0,
+        line: None,
         len: n,
         next: end,
     }

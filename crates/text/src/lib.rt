@@ -12,4 +12,3 @@ mod words;
 pub use feed::{Fed, feed_line, gather, newline_from};
 pub use read::request;
 pub use requests::Request;
-pub use words::Word;

@@ -1,9 +1,9 @@
 // The word that a line starts with.
 ghost use Rattle.std.specs.Prelude.{◌≡◌};
 ghost use Rattle.text.specs.Bytes.{same};
-ghost use Rattle.text.specs.Words.{word_of, later_word, shape_of};
+ghost use Rattle.text.specs.Words.{word_of};
 
-// The ten words, and any other first field.
+// The ten words.
 #[derive(Clone, Copy)]
 pub enum Word {
     Column,
@@ -16,7 +16,6 @@ pub enum Word {
     Commit,
     Tidy,
     Abort,
-    Unknown,
 }
 
 // Whether a field is a word.
@@ -26,75 +25,39 @@ fn is(field: &[u8], word: &[u8]) -> bool
     check::same(field, word)
 }
 
-// The word that a field is, of the last five.
-fn later_word(field: &[u8]) -> Word
-    ensures { result ≡ later_word field.now }
-{
-    if is(field, b"delete") {
-        return Word::Delete;
-    }
-    if is(field, b"insert") {
-        return Word::Insert;
-    }
-    if is(field, b"commit") {
-        return Word::Commit;
-    }
-    if is(field, b"tidy") {
-        return Word::Tidy;
-    }
-    if is(field, b"abort") {
-        return Word::Abort;
-    }
-    Word::Unknown
-}
-
-// The word that a field is.
-pub fn word_of(field: &[u8]) -> Word
+// The word that a field is, if it is one. A `match` on the bytes would prove nothing: its arms give facts on the length alone.
+pub fn word_of(field: &[u8]) -> Option<Word>
     ensures { result ≡ word_of field.now }
 {
     if is(field, b"column") {
-        return Word::Column;
+        return Some(Word::Column);
     }
     if is(field, b"begin") {
-        return Word::Begin;
+        return Some(Word::Begin);
     }
     if is(field, b"query") {
-        return Word::Query;
+        return Some(Word::Query);
     }
     if is(field, b"read") {
-        return Word::Read;
+        return Some(Word::Read);
     }
     if is(field, b"update") {
-        return Word::Update;
+        return Some(Word::Update);
     }
-    later_word(field)
-}
-
-// What follows a word: so many numbers, or C and a column's values. Nothing that follows another field makes a call.
-#[derive(Clone, Copy)]
-pub enum Shape {
-    One,
-    Two,
-    Three,
-    Column,
-    Nothing,
-}
-
-// What follows a word.
-pub fn shape_of(word: Word) -> Shape
-    ensures { result ≡ shape_of word }
-{
-    match word {
-        Word::Column => Shape::Column,
-        Word::Update => Shape::Three,
-        Word::Begin => Shape::One,
-        Word::Commit => Shape::One,
-        Word::Abort => Shape::One,
-        Word::Query => Shape::Two,
-        Word::Read => Shape::Two,
-        Word::Delete => Shape::Two,
-        Word::Insert => Shape::Two,
-        Word::Tidy => Shape::Two,
-        Word::Unknown => Shape::Nothing,
+    if is(field, b"delete") {
+        return Some(Word::Delete);
     }
+    if is(field, b"insert") {
+        return Some(Word::Insert);
+    }
+    if is(field, b"commit") {
+        return Some(Word::Commit);
+    }
+    if is(field, b"tidy") {
+        return Some(Word::Tidy);
+    }
+    if is(field, b"abort") {
+        return Some(Word::Abort);
+    }
+    None
 }

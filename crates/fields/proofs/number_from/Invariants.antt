@@ -1,7 +1,6 @@
 -- `fields::number_from` meets its contract: the whole answer is that from each place on, with the digits so far.
 use mathlib.Core.Path.{◌≡◌}
-use Prim.Native.Nat.{◌-◌, ◌≤◌}
-use lib.ListN.{length}
+use Prim.Native.Nat.{◌≤◌}
 use Rattle.fields.specs.Number.{number}
 use Rattle.fields.specs.Places.{start_by}
 use Rattle.fields.proofs.NumberLaws.{number_on}
@@ -9,7 +8,4 @@ use Rattle.fields.proofs.NumberLaws.{most}
 use Rattle.fields.proofs.number_from.Given as goal
 
 abbrev pub invariant-loop-i : goal.invariant-loop-i
-invariant-loop-i l = (l.i ≤ length l.line) × (l.left ≤ 3) × (l.x ≤ most l.left) × (start_by number l.line l.from ≡ number_on l.left l.x l.line l.i)
-
-abbrev pub decreases-loop-i : goal.decreases-loop-i
-decreases-loop-i l = length l.line - l.i
+invariant-loop-i l = (l.left ≤ 3) × (l.value ≤ most l.left) × (start_by number l.line l.from ≡ number_on l.left l.value l.line l.i)

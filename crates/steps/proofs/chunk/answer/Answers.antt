@@ -38,7 +38,7 @@ pub answered-done-requires : goal.answered-done-requires
 answered-done-requires c =
     let g = c.loop-more.invariant in
     let f = c.feed_line-fed.ensures in
-    (g.0.wide, going-part g.1 c.loop-more-test.true, omega (arith, f.line-fits, f.room))
+    (g.0.wide, going-part g.1 c.loop-more-test.true, rw f.room f.line-fits)
 
 pub offset_bounds-all-i : goal.offset_bounds-all-i
 offset_bounds-all-i c = omega (arith, c.answered-done.ensures.place_bound)

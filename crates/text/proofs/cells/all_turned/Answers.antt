@@ -4,10 +4,10 @@ use Rattle.text.proofs.ShortLaws.{turned_none, turned_more, turned-all}
 use Rattle.text.proofs.cells.all_turned.Goals as goal
 
 pub loop-j-init : goal.loop-j-init
-loop-j-init c = (omega arith, omega arith, turned_none _ _)
+loop-j-init c = turned_none _ _
 
 pub loop-j-preserved : goal.loop-j-preserved
-loop-j-preserved c = (omega arith, omega arith, turned_more _ _ _ _ _ c.loop-j.invariant.2 c.turned-ok.ensures)
+loop-j-preserved c = turned_more _ _ _ _ _ c.loop-j.invariant c.turned-ok.ensures
 
 pub returns : goal.returns
-returns c = turned-all _ _ _ _ _ _ c.loop-j.invariant.2 c.loop-j.invariant.1 (omega arith)
+returns c = turned-all _ _ _ _ _ c.loop-j.invariant (omega arith)

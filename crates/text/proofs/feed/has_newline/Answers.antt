@@ -1,13 +1,12 @@
 -- `text::feed::has_newline` meets its contract.
-use Rattle.std.proofs.Common.{arith}
 use Rattle.text.proofs.FeedLaws.{found_none, found-step, found_all}
 use Rattle.text.proofs.feed.has_newline.Goals as goal
 
-pub loop-i-init : goal.loop-i-init
-loop-i-init c = (omega arith, search found_none)
+pub loop-b-init : goal.loop-b-init
+loop-b-init c = found_none _ c.args.bytes.now
 
-pub loop-i-preserved : goal.loop-i-preserved
-loop-i-preserved c = (omega arith, search found-step)
+pub loop-b-preserved : goal.loop-b-preserved
+loop-b-preserved c = search found-step
 
 pub returns : goal.returns
 returns c = search found_all
