@@ -5,6 +5,8 @@ use mathlib.Core.List.{List, [], ◌∷◌, ◌++◌}
 use Prim.Native.Nat.{ℕ, suc, ◌+◌, ◌-◌, ◌≤◌, ◌<◌}
 use native.Mathlib.Omega.{arith}
 use borrow.Author.Tests.{lt-ltb, le-ltb}
+use mir.Syntax.{w32}
+use mir.Val.{Fits}
 use lib.ListN.{length, get_or, set, length-append}
 use Rattle.bits.specs.Bit.{flip_bit}
 use Rattle.bits.specs.Tab.{tab}
@@ -180,21 +182,21 @@ module _ (changes : List ℕ) (x : Session) (from rows : ℕ) where
         let one = length-append sofar (get_or x.to i 0 ∷ []) in
         omega (arith, s.place, ready.places-low, more, ap length (inserts-new x i new), one)
 
-    pub insert-row : InsertsReady changes x from rows → i < x.count → row.0 < 4294967295
+    pub insert-row : InsertsReady changes x from rows → i < x.count → Fits w32 (row.0 + 1)
     insert-row ready l = omega (arith, s.next_row, ready.rows-low, ready.places-low, inserts-few x i x.count (omega arith))
 
-    pub inserts-more : (changes'' stored : List ℕ) (p' : ℕ) (row' next : Row) → get_or x.at i 0 ≡ 65535 → changes'' ≡ stored
-        → stored ≡ put_change changes' p row.0 (toggled_in 0 (some (get_or x.to i 0))) → p' ≡ p + 1 → row' ≡ next → next.0 ≡ row.0 + 1
-        → InsertsStored x from rows changes changes'' (i + 1) p' row'.0
-    inserts-more changes'' stored p' row' next new y w u k z =
+    pub inserts-more : (changes'' stored : List ℕ) (p' v set : ℕ) (row' : Row) → get_or x.at i 0 ≡ 65535 → changes'' ≡ stored
+        → stored ≡ put_change changes' p row.0 set → set ≡ toggled_in 0 (some v) → v ≡ get_or x.to i 0 → p' ≡ p + 1
+        → row' ≡ record { 0 = row.0 + 1 } → InsertsStored x from rows changes changes'' (i + 1) p' row'.0
+    inserts-more changes'' stored p' v set row' new y w e f u k =
         let to = get_or x.to i 0 in
         let one = length-append sofar (to ∷ []) in
         record {
           stored =
-              rw (y, w, s.stored, s.place, s.next_row, inserts-new x i new, insert_cells-snoc rows sofar to)
+              rw (y, w, e, f, s.stored, s.place, s.next_row, inserts-new x i new, insert_cells-snoc rows sofar to)
               (sym (changes-snoc changes from (insert_cells rows sofar) _ ∙ rw length-insert_cells));
           place = u ∙ omega (arith, s.place, ap length (inserts-new x i new), one);
-          next_row = ap (λ (q : Row). q.0) k ∙ z ∙ omega (arith, s.next_row, ap length (inserts-new x i new), one);
+          next_row = ap (λ (q : Row). q.0) k ∙ omega (arith, s.next_row, ap length (inserts-new x i new), one);
         }
 
     pub inserts-skip : (changes'' : List ℕ) (p' : ℕ) (row' : Row) → (get_or x.at i 0 ≡ 65535 → ⊥) → changes'' ≡ changes' → p' ≡ p

@@ -16,11 +16,11 @@ loop-i-preserved c =
 pub loop-i-init : goal.loop-i-init
 loop-i-init c = (refl, omega arith, search inserts-start)
 
-pub write_insert-requires : goal.write_insert-requires
-write_insert-requires c = (omega arith, search insert-place, omega arith)
+pub put_change-requires : goal.put_change-requires
+put_change-requires c = (search insert-place, omega arith)
 
-pub next_row-row-requires : goal.next_row-row-requires
-next_row-row-requires c = search insert-row
+pub overflow_add-row : goal.overflow_add-row
+overflow_add-row c = search insert-row
 
 pub returns : goal.returns
 returns c = search inserts-all
