@@ -98,10 +98,6 @@ module _ (col : List ℕ) (i : ℕ) where
           get_or-set_other own b v u 0 n
           ∙ ap (put v) (sym (ne_eqb (get_or col (i * 64 + k) 0) v (λ s. n (sym s ∙ sym e))))
 
-  -- all that were asked for
-  pub gather-end : (own : List ℕ) (k to : ℕ) → Gatherable own col i k to → to ≤ k → Gathered col i to own
-  gather-end own k to g h = let e : k ≡ to = omega (arith, g.ordered) in subst (λ (n : ℕ). Gathered col i n own) e g.sofar
-
   -- those past the end of the column hold no value
   pub gather-all : (own : List ℕ) (n : ℕ) → n ≡ min 64 (length col - i * 64) → Gathered col i n own → Gathered col i 64 own
   gather-all own n e g = record { at = λ v m. column-all col v i n (get_or own v 0) (omega arith) e (g.at v m) }

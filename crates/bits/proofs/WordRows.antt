@@ -138,16 +138,8 @@ pub record Listing (entry list : List ℕ) (start at w base x : ℕ) : Type 0 wh
   pub room : length list ≡ length entry
   pub low : x < 2 ^ 64
 
--- nothing is listed
-pub listing_none : (d : List ℕ) (start w base : ℕ) → w < 2 ^ 64 → Listing d d start start w base w
-listing_none d start w base h = record { list-is = refl; place_is = refl; room = refl; low = h }
-
 module _ (entry list : List ℕ) (start at w base x : ℕ) (g : Listing entry list start at w base x) where
   module _ (some : x ≡ 0 → ⊥) where
-    -- the next row is a number of 16 bits
-    pub listing-lt : base + 64 ≤ 65536 → base + count_trailing_zeros 64 x < 65536
-    listing-lt b = omega (arith, lowest-lt 64 x g.low some)
-
     -- there is a cell for it
     pub listing-room : start + length (word_rows w base) ≤ length entry → at < length list
     listing-room h = omega (arith, g.place_is, g.room, ap length (word_first x base g.low some))

@@ -7,7 +7,7 @@ ghost use Rattle.bits.specs.All.{all_below};
 ghost use Rattle.tables.specs.Damage.{all_in, clock_fits, records_fit, changes_fit};
 ghost use Rattle.change_damage.specs.Parts.{Gathered, row_below, record_rows_fit, Alike, Rising};
 
-use tables::{MAX_ROWS, Row};
+use tables::{MAX_CHANGES, MAX_ROWS, Row};
 
 // The n cells from `from` on, as one set: their first half and their second at once.
 fn gathered(cells: &[u32], from: usize, n: usize) -> u32
@@ -44,7 +44,11 @@ fn rows_below(changes: &[u32], from: usize, to: usize, rows: Row) -> bool
     if rows.0 == MAX_ROWS {
         return gathered(changes, from, to - from) < MAX_ROWS;
     }
-    if to - from < 8 || from < 8 {
+    // Two tests: as one with `||` the check of grown tables takes 2 % more instructions.
+    if to - from < 8 {
+        return rows_below_each(changes, from, to, rows);
+    }
+    if from < 8 {
         return rows_below_each(changes, from, to, rows);
     }
     rows_below_each(changes, to - (to - from + 7) / 8 * 8, to, rows)
@@ -104,6 +108,6 @@ pub fn changes_fit(clock: &[u32], log: &[u32], changes: &[u32]) -> bool
 {
     let c = tables::clock_of(clock);
     let n = tables::changes_used(clock) as usize;
-    bits::all_below(gathered(changes, 2048, n), c.values.0)
+    bits::all_below(gathered(changes, MAX_CHANGES as usize, n), c.values.0)
         && each_rows_fit(log, changes, c.stamp.0 as usize)
 }

@@ -1,4 +1,5 @@
 -- Commit on the lent tables: its changes are the rules', and what each end of `commit_now` and of the core comes to.
+use Rattle.std.specs.Prelude.{Result, Ok, Err}
 use mathlib.Core.Path.{◌≡◌, refl, sym, ap, ap₂, ◌∙◌}
 use mathlib.Core.Option.{Option, none, some}
 use mathlib.Core.List.{List, [], ◌∷◌}
@@ -17,6 +18,7 @@ use Rattle.rules.specs.State as rules
 use Rattle.rules.proofs.Fits.{smallest-low}
 use Rattle.tables.specs.declared.session.Session.{Session}
 use Rattle.tables.specs.declared.refusal.Refusal.{Refusal}
+use Rattle.tables.specs.Refusals.{number_of}
 use Rattle.tables.specs.Cells.{Tables, tables, values_in, stamp_in, rows_in, end_at}
 use Rattle.tables.specs.Meaning.{entries, meaning}
 use Rattle.tables.proofs.Facts.{parts, clock-limits}
@@ -26,18 +28,15 @@ use Rattle.history.specs.Last.{last_set}
 use Rattle.history.specs.Read.{read_cells}
 use Rattle.history.proofs.Meets.{flip_set-meets, read_meets}
 use Rattle.lent.specs.declared.seats.Seat.{Seat}
-use Rattle.outcomes.specs.declared.answers.Freed.{Freed}
 use Rattle.outcomes.specs.declared.answers.Answer.{Answer}
-use Rattle.outcomes.specs.declared.enter.Test.TheVariants.{Passed, No}
 use Rattle.outcomes.specs.Said.{numbers}
 use Rattle.outcomes.specs.Outcome.{Outcome, outcome}
 use Rattle.outcomes.specs.Stores.{stores}
 use Rattle.outcomes.specs.Calls.{commit_rows, commit_stores, commit_of}
-use Rattle.outcomes.specs.Seats.{frees, frees_none, freeing, Serves}
-use Rattle.outcomes.specs.Enter.{why_of, opened_by}
+use Rattle.outcomes.specs.Seats.{freeing, Serves}
+use Rattle.outcomes.specs.Enter.{opened_by}
 use Rattle.outcomes.specs.Opened.{Usable, OpenIn, Settles}
 use Rattle.committing.specs.Commit.{commit_tests, toggled_in, new_cells, insert_cells, CommitReady, changes_made, Committed}
-use Rattle.outcomes.specs.declared.enter.Test as asked
 use Rattle.outcomes.proofs.Entered.{opened-goes, opened-shows}
 use Rattle.outcomes.proofs.Serving.{idle-freeing, freed-left, refused-outcome, accepted-outcome, opened-refused}
 use Rattle.outcomes.proofs.StoreLaws.{commit-stores}
@@ -111,32 +110,30 @@ module _ (clock slots words heads log changes : List ℕ) where
   abbrev wrote : ℕ → Tables → Outcome
   wrote n t = outcome (stores t (commit_stores t n)) [] (numbers ((stamp_in t.clock + 1) ∷ commit_rows t n ∷ []))
 
-  module _ (x : Session) (n : ℕ) (go : asked.Test) (q : why_of go ≡ first_of (commit_tests clock log changes x)) where
-    pub now-refused : (why : Refusal) (d : Freed) → go ≡ No why → d ≡ frees_none why
-        → Settles lent lent x n (freeing d n) d.answer (λ t. commit_of t n)
+  module _ (x : Session) (n : ℕ) where
+    pub now-refused : (why : Refusal) (d : Result Answer Refusal) → some (number_of why) ≡ first_of (commit_tests clock log changes x)
+        → d ≡ Err why → Settles lent lent x n (freeing d n) d (λ t. commit_of t n)
     unfolding commit_of
-    now-refused why d h k ts o =
+    now-refused why d q k ts o =
         let t = lent ts in
-        refused-outcome t [] (commit n) (wrote n t) why (freeing d n) d.answer
-        (commit-refusal t n x o ∙ sym q ∙ ap why_of h) (idle-freeing d n why k)
+        refused-outcome t [] (commit n) (wrote n t) why (freeing d n) d (commit-refusal t n x o ∙ sym q) (idle-freeing d n why k)
 
-    module _ (h : go ≡ Passed) where
+    module _ (q : none ≡ first_of (commit_tests clock log changes x)) where
       pub now-ready : Usable clock slots words heads log changes x → CommitReady clock slots words heads log changes x
-      now-ready u = commit-ready clock slots words heads log changes x u (sym q ∙ ap why_of h)
+      now-ready u = commit-ready clock slots words heads log changes x u (sym q)
 
-      pub now-done : (clock' log' changes' : List ℕ) (a : Answer) (d : Freed)
-          → Committed clock slots words heads log changes x clock' log' changes' a → d ≡ frees a
-          → Settles lent (tables clock' slots words heads log' changes') x n (freeing d n) d.answer (λ t. commit_of t n)
+      pub now-done : (clock' log' changes' : List ℕ) (a : Answer) → Committed clock slots words heads log changes x clock' log' changes' a
+          → Settles lent (tables clock' slots words heads log' changes') x n (freeing (Ok a) n) (Ok a) (λ t. commit_of t n)
       unfolding commit_of
-      now-done clock' log' changes' a d c k ts o =
+      now-done clock' log' changes' a c ts o =
           let t = lent ts in
-          freed-left (tables clock' slots words heads log' changes' ts) [] n d a o.place-low k
+          freed-left (tables clock' slots words heads log' changes' ts) [] n (Ok a) a o.place-low refl
           ∙ rw (c.recorded.clock-is, c.recorded.log_is, c.recorded.says, c.stored, changes-meet t n x o, ← o.own-there)
-          (sym (accepted-outcome t [] (commit n) (wrote n t) (commit-refusal t n x o ∙ sym q ∙ ap why_of h) ∙ rw (commit-stores t n)))
+          (sym (accepted-outcome t [] (commit n) (wrote n t) (commit-refusal t n x o ∙ sym q) ∙ rw (commit-stores t n)))
 
   -- ---- the core
 
-  module _ (x : Seat) (n : ℕ) (test : asked.Test) (q : why_of test ≡ opened_by clock slots words heads log changes x n) where
+  module _ (x : Seat) (n : ℕ) where
     -- the tests that are left
     abbrev left : Tables → List Test
     left t =
@@ -144,19 +141,19 @@ module _ (clock slots words heads log changes : List ℕ) where
         let y = session st n in
         list_empty y ∷ conflict st y ∷ rows_full st y ∷ records_full st ∷ changes_full st (length (rules.list_of y)) ∷ []
 
-    pub commit-refused : (why : Refusal) (d : Freed) → test ≡ No why → d ≡ frees_none why
-        → Serves lent lent [] x n (freeing d n) d.answer (λ t. commit_of t n)
+    pub commit-refused : (why : Refusal) (d : Result Answer Refusal) → some (number_of why) ≡ opened_by clock slots words heads log changes x n
+        → d ≡ Err why → Serves lent lent [] x n (freeing d n) d (λ t. commit_of t n)
     unfolding commit_of tests
-    commit-refused why d h k =
-        opened-refused clock slots words heads log changes [] x n (commit n) (wrote n) test why h (freeing d n) d.answer
-        (idle-freeing d n why k) left (λ t. refl) q
+    commit-refused why d q k =
+        opened-refused clock slots words heads log changes [] x n (commit n) (wrote n) why (freeing d n) d (idle-freeing d n why k) left
+        (λ t. refl) q
 
-    pub commit-on : (clock' log' changes' : List ℕ) (d : Freed) → test ≡ Passed
-        → Settles lent (tables clock' slots words heads log' changes') x.session n (freeing d n) d.answer (λ t. commit_of t n)
-        → Serves lent (tables clock' slots words heads log' changes') [] x n (freeing d n) d.answer (λ t. commit_of t n)
+    pub commit-on : (clock' log' changes' : List ℕ) (d : Result Answer Refusal) → none ≡ opened_by clock slots words heads log changes x n
+        → Settles lent (tables clock' slots words heads log' changes') x.session n (freeing d n) d (λ t. commit_of t n)
+        → Serves lent (tables clock' slots words heads log' changes') [] x n (freeing d n) d (λ t. commit_of t n)
     unfolding tests
-    commit-on clock' log' changes' d h f ts e =
+    commit-on clock' log' changes' d q f ts e =
         let t = lent ts in
-        let g = opened-goes t n x e (commit n) (left t) test refl q h in
-        let s = opened-shows t n x e (commit n) (left t) test refl q h in
+        let g = opened-goes t n x e (commit n) (left t) refl q in
+        let s = opened-shows t n x e (commit n) (left t) refl q in
         f ts (record { room = g.room; good = g.good; place-low = s.place-low; own-there = s.own-there; live-one = s.live-one })

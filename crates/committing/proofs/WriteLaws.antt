@@ -5,6 +5,8 @@ use mathlib.Core.List.{List, [], ◌∷◌, ◌++◌}
 use Prim.Native.Nat.{ℕ, suc, ◌+◌, ◌-◌, ◌≤◌, ◌<◌}
 use native.Mathlib.Omega.{arith}
 use borrow.Author.Tests.{lt-ltb, le-ltb}
+use mir.Syntax.{w32}
+use mir.Val.{Fits}
 use lib.ListN.{length, get_or, set, length-append}
 use Rattle.bits.specs.Bit.{flip_bit}
 use Rattle.bits.specs.Tab.{tab}
@@ -23,10 +25,11 @@ use Rattle.tables.specs.Stretch.{stretch}
 use Rattle.tables.proofs.Stores.{length-change}
 use Rattle.tables.proofs.Stretch.{tab-stretch, stretch-join}
 use Rattle.history.specs.declared.changes.Last.{Last}
-use Rattle.history.specs.declared.read.Standing.{Standing}
-use Rattle.history.specs.declared.read.Standing.TheVariants.{Holds, Absent}
-use Rattle.history.specs.Last.{last_set, last_of}
+use Rattle.std.specs.Prelude.{Some, None}
+use Rattle.std.specs.Prelude as kit
+use Rattle.history.specs.Last.{set_of, last_set, last_of}
 use Rattle.history.specs.Read.{standing_of, read_cells, read_after, Readable, ReadReady}
+use Rattle.history.proofs.LastLaws.{set_of-last}
 use Rattle.history.proofs.ReadLaws.{read_is}
 use Rattle.history.proofs.Kept.{set-kept, read_kept}
 use Rattle.outcomes.specs.declared.answers.Answer.TheVariants.{At}
@@ -38,12 +41,12 @@ use Rattle.outcomes.proofs.ListLaws.{inserts-new, inserts-row, rows_new, rows_ro
 
 -- ---- a value toggled
 
-module _ (m : ℕ) (held : Standing) where
-  pub toggled-absent : held ≡ Absent → m ≡ toggled_in m (standing_of held)
+module _ (m : ℕ) (held : kit.Option Value) where
+  pub toggled-absent : held ≡ None → m ≡ toggled_in m (standing_of held)
   unfolding toggled_in
   toggled-absent e = rw e
 
-  module _ (v : Value) (e : held ≡ Holds v) where
+  module _ (v : Value) (e : held ≡ Some v) where
     pub toggled-low : (r : ℕ) → v.0 < 32 → r ≡ flip_bit m v.0 → r ≡ toggled_in m (standing_of held)
     unfolding toggled_in
     toggled-low r l q = rw (e, lt-ltb v.0 32 l) q
@@ -59,13 +62,14 @@ module _ (clock slots words heads log changes : List ℕ) (s : ℕ) (c : Clock) 
   unfolding clock_in
   new-readable r = rw k r.readable
 
-  pub new_is : (row to end : ℕ) (last : Last) (held target : Standing) (a r : ℕ) → end ≡ end_at log s → last ≡ last_of changes end row
-      → standing_of held ≡ read_after slots words heads log c.values.0 s row last → a ≡ toggled_in last.set (standing_of held)
-      → standing_of target ≡ target_of to → r ≡ toggled_in a (standing_of target)
+  pub new_is : (row to end : ℕ) (last : kit.Option Last) (held target : kit.Option Value) (set a r : ℕ) → end ≡ end_at log s
+      → last ≡ last_of changes end row → standing_of held ≡ read_after slots words heads log c.values.0 s row last
+      → set ≡ set_of last → a ≡ toggled_in set (standing_of held) → standing_of target ≡ target_of to → r ≡ toggled_in a (standing_of target)
       → r ≡ new_cells slots words heads log changes (values_in clock) s row (target_of to)
-  unfolding new_cells clock_in last_of
-  new_is row to end last held target a r e l h p q z =
-      z ∙ ap₂ toggled_in (p ∙ ap₂ toggled_in (ap (λ (y : Last). y.set) l ∙ ap (λ (n : ℕ). last_set changes 0 n row) e)
+  unfolding new_cells clock_in
+  new_is row to end last held target set a r e l h w p q z =
+      z ∙ ap₂ toggled_in (p ∙ ap₂ toggled_in
+      (w ∙ ap set_of l ∙ set_of-last changes row end ∙ ap (λ (n : ℕ). last_set changes 0 n row) e)
       (read_is slots words heads log changes c.values.0 s row end last (standing_of held) e l h
       ∙ ap (λ (d : Clock). read_cells slots words heads log changes d.values.0 s row) k)) q
 
@@ -96,8 +100,8 @@ module _ (clock slots words heads log changes : List ℕ) (x : Session) (from : 
   unfolding put_changes tab
   rows_start = record { stored = refl; place = omega arith }
 
-  module _ (changes' : List ℕ) (i p n : ℕ) (s : RowsStored sets x from changes changes' i p) (m : n ≡ x.count) (q : p ≤ from + i) where
-    pub row-ready : i < n → length changes' ≡ length changes → RowReady clock slots words heads log changes' x i p
+  module _ (changes' : List ℕ) (i p : ℕ) (s : RowsStored sets x from changes changes' i p) (q : p ≤ from + i) where
+    pub row-ready : i < x.count → length changes' ≡ length changes → RowReady clock slots words heads log changes' x i p
     row-ready l e = record {
       clock-room = ready.clock-room;
       readable = search (ready.readable, arith);
@@ -106,18 +110,18 @@ module _ (clock slots words heads log changes : List ℕ) (x : Session) (from : 
     }
 
     -- the changes up to the start are still there
-    new-kept : i ≤ n → (row : ℕ) (b : Option ℕ) → new_cells slots words heads log changes' (values_in clock) x.start.0 row b ≡ sets row b
+    new-kept : i ≤ x.count → (row : ℕ) (b : Option ℕ) → new_cells slots words heads log changes' (values_in clock) x.start.0 row b ≡ sets row b
     unfolding new_cells
     new-kept l row b =
         let cs = row_changes sets (tab (entry_at x) i) in
-        let low : from + length cs ≤ 2048 = omega (arith, s.place, q, m, l, ready.places-low) in
+        let low : from + length cs ≤ 2048 = omega (arith, s.place, q, l, ready.places-low) in
         let same : (j : ℕ) → j < from → change_at changes' j ≡ change_at changes j =
         λ j h. ap (λ (c : List ℕ). change_at c j) s.stored ∙ changes-before changes from cs low j h in
         ap₂ (λ (a : ℕ) (o : Option ℕ). toggled_in (toggled_in a o) b)
         (set-kept changes' changes from same 0 (end_at log x.start.0) row ready.start-before)
         (read_kept changes' changes from same slots words heads log (values_in clock) x.start.0 row ready.start-before)
 
-    pub rows_more : (changes'' stored : List ℕ) (p' : ℕ) → i < n → (get_or x.at i 0 ≡ 65535 → ⊥) → changes'' ≡ stored
+    pub rows_more : (changes'' stored : List ℕ) (p' : ℕ) → i < x.count → (get_or x.at i 0 ≡ 65535 → ⊥) → changes'' ≡ stored
         → stored ≡ put_change changes' p (get_or x.at i 0) (new_cells slots words heads log changes' (values_in clock) x.start.0
         (get_or x.at i 0) (target_of (get_or x.to i 0)))
         → p' ≡ p + 1 → RowsStored sets x from changes changes'' (i + 1) p'
@@ -140,7 +144,7 @@ module _ (clock slots words heads log changes : List ℕ) (x : Session) (from : 
       place = rw (u, s.place, rows_new x i new sets);
     }
 
-    pub rows_all : n ≤ i → i ≤ n → RowsStored sets x from changes changes' x.count p
+    pub rows_all : x.count ≤ i → i ≤ x.count → RowsStored sets x from changes changes' x.count p
     rows_all l h = let z : i ≡ x.count = omega arith in rw z at s
 
 -- ---- the changes of the inserts
@@ -168,32 +172,31 @@ module _ (changes : List ℕ) (x : Session) (from rows : ℕ) where
   unfolding put_changes tab
   inserts-start = record { stored = refl; place = omega arith; next_row = omega arith }
 
-  module _ (changes' : List ℕ) (i p n : ℕ) (row : Row) (s : InsertsStored x from rows changes changes' i p row.0)
-      (m : n ≡ x.count) where
+  module _ (changes' : List ℕ) (i p : ℕ) (row : Row) (s : InsertsStored x from rows changes changes' i p row.0) where
     abbrev sofar : List ℕ
     sofar = inserts (tab (entry_at x) i)
 
-    pub insert-place : InsertsReady changes x from rows → i < n → get_or x.at i 0 ≡ 65535 → p < 2048
+    pub insert-place : InsertsReady changes x from rows → i < x.count → get_or x.at i 0 ≡ 65535 → p < 2048
     insert-place ready l new =
         let more = inserts-few x (i + 1) x.count (omega arith) in
         let one = length-append sofar (get_or x.to i 0 ∷ []) in
         omega (arith, s.place, ready.places-low, more, ap length (inserts-new x i new), one)
 
-    pub insert-row : InsertsReady changes x from rows → i < n → row.0 < 4294967295
+    pub insert-row : InsertsReady changes x from rows → i < x.count → Fits w32 (row.0 + 1)
     insert-row ready l = omega (arith, s.next_row, ready.rows-low, ready.places-low, inserts-few x i x.count (omega arith))
 
-    pub inserts-more : (changes'' stored : List ℕ) (p' : ℕ) (row' next : Row) → get_or x.at i 0 ≡ 65535 → changes'' ≡ stored
-        → stored ≡ put_change changes' p row.0 (toggled_in 0 (some (get_or x.to i 0))) → p' ≡ p + 1 → row' ≡ next → next.0 ≡ row.0 + 1
-        → InsertsStored x from rows changes changes'' (i + 1) p' row'.0
-    inserts-more changes'' stored p' row' next new y w u k z =
+    pub inserts-more : (changes'' stored : List ℕ) (p' v set : ℕ) (row' : Row) → get_or x.at i 0 ≡ 65535 → changes'' ≡ stored
+        → stored ≡ put_change changes' p row.0 set → set ≡ toggled_in 0 (some v) → v ≡ get_or x.to i 0 → p' ≡ p + 1
+        → row' ≡ record { 0 = row.0 + 1 } → InsertsStored x from rows changes changes'' (i + 1) p' row'.0
+    inserts-more changes'' stored p' v set row' new y w e f u k =
         let to = get_or x.to i 0 in
         let one = length-append sofar (to ∷ []) in
         record {
           stored =
-              rw (y, w, s.stored, s.place, s.next_row, inserts-new x i new, insert_cells-snoc rows sofar to)
+              rw (y, w, e, f, s.stored, s.place, s.next_row, inserts-new x i new, insert_cells-snoc rows sofar to)
               (sym (changes-snoc changes from (insert_cells rows sofar) _ ∙ rw length-insert_cells));
           place = u ∙ omega (arith, s.place, ap length (inserts-new x i new), one);
-          next_row = ap (λ (q : Row). q.0) k ∙ z ∙ omega (arith, s.next_row, ap length (inserts-new x i new), one);
+          next_row = ap (λ (q : Row). q.0) k ∙ omega (arith, s.next_row, ap length (inserts-new x i new), one);
         }
 
     pub inserts-skip : (changes'' : List ℕ) (p' : ℕ) (row' : Row) → (get_or x.at i 0 ≡ 65535 → ⊥) → changes'' ≡ changes' → p' ≡ p
@@ -204,7 +207,7 @@ module _ (changes : List ℕ) (x : Session) (from rows : ℕ) where
       next_row = rw (z, s.next_row, inserts-row x i old);
     }
 
-    pub inserts-all : n ≤ i → i ≤ n → changes' ≡ put_changes changes from (insert_cells rows (inserts (entries x)))
+    pub inserts-all : x.count ≤ i → i ≤ x.count → changes' ≡ put_changes changes from (insert_cells rows (inserts (entries x)))
     inserts-all l h = let z : i ≡ x.count = omega arith in (rw z at s).stored
 
 -- ---- the record and the clock

@@ -14,7 +14,7 @@ use Rattle.tables.specs.Meaning.{record_at, entry_at, entries}
 use Rattle.history.specs.Last.{last_set}
 use Rattle.history.specs.Read.{read_cells, ReadReady}
 use Rattle.outcomes.specs.declared.answers.Answer.{Answer}
-use Rattle.outcomes.specs.Said.{said, numbers}
+use Rattle.outcomes.specs.Said.{numbers_of, numbers}
 use Rattle.outcomes.specs.Stores.{put_changes}
 use Rattle.outcomes.specs.Opened.{Usable}
 use Rattle.conflict.specs.Searched.{Searched}
@@ -94,7 +94,7 @@ pub record InsertsStored (x : Session) (from rows : ℕ) (changes changes' : Lis
 pub record Recorded (clock log : List ℕ) (rows end : ℕ) (clock' log' : List ℕ) (a : Answer) : Type 0 where
   pub clock-is : clock' ≡ set (set (set clock 2 (stamp_in clock + 1)) 3 rows) 5 end
   pub log_is : log' ≡ put_record log (stamp_in clock) 1 rows end
-  pub says : said a ≡ numbers ((stamp_in clock + 1) ∷ rows ∷ [])
+  pub says : numbers_of a ≡ numbers ((stamp_in clock + 1) ∷ rows ∷ [])
 
 -- ---- all of it
 

@@ -1,4 +1,4 @@
-// Commit: its refusals, and what it writes.
+// Commit: its refusals, and what it writes. Where one of the six tables is written while the others are read, they are passed apart.
 ghost use Rattle.std.specs.Prelude.{◌≡◌, []};
 ghost use Rattle.rules.specs.Refusals.{first_of};
 ghost use Rattle.tables.specs.Cells.{tables};

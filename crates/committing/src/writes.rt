@@ -1,4 +1,5 @@
-// What an accepted commit writes: the changes of the listed rows and of the inserts, the record, the clock.
+// What an accepted commit writes: the changes of the listed rows and of the inserts, the record, the clock. Where one of the six tables
+// is written while the others are read, they are passed apart, and not as one view.
 ghost use Rattle.std.specs.Prelude.{◌≡◌, ◌+◌, ◌<◌, ◌≤◌, length, get_or};
 ghost use Rattle.std.proofs.Math.Option.{some};
 ghost use Rattle.rules.specs.Lists as rules;
@@ -14,6 +15,7 @@ use outcomes::Answer;
 use tables::{Kind, NumberTables, Row, Session, Stamp, Value};
 
 // A flip set with what a row holds toggled, if it holds a value.
+#[tactic(auto, unfolding(crate::specs::Commit::toggled_in))]
 pub fn toggled(set: u32, held: Option<Value>) -> u32
     ensures { result ≡ toggled_in set (standing_of held) }
 {
@@ -33,7 +35,8 @@ fn new_set(t: NumberTables, start: Stamp, row: Row, to: u8) -> u32
     let c = tables::clock_of(t.clock);
     let last = history::last_naming(t.changes, tables::end_at(t.log, start), row);
     let held = history::read_after(t, c.values, start, row, last);
-    toggled(toggled(history::set_of(last), held), outcomes::target_of(to))
+    let set = toggled(history::set_of(last), held);
+    toggled(set, outcomes::target_of(to))
 }
 
 // The change of listed row i is written at p.
@@ -92,23 +95,6 @@ fn write_rows(
     p
 }
 
-// The change of insert i is written at p.
-fn write_insert(changes: &mut [u32], s: Session, i: usize, p: usize, row: Row)
-    requires { (i < 32) × (p < 2048) × (4096 ≤ length changes.old) }
-    ensures { changes.new ≡ put_change changes.old p row.0 (toggled_in 0 (some (get_or s.to i 0))) }
-{
-    let v = Value(u32::from(s.to[i]));
-    tables::put_change(changes, p, row, toggled(0, Some(v)));
-}
-
-// The row after another.
-fn next_row(row: Row) -> Row
-    requires { row.0 < 4294967295 }
-    ensures { result.0 ≡ row.0 + 1 }
-{
-    Row(row.0 + 1)
-}
-
 // The changes of the inserts are written from `from` on, with the row numbers from `rows` on.
 fn write_inserts(changes: &mut [u32], s: Session, from: usize, rows: Row)
     requires { InsertsReady changes.old s from rows.0 }
@@ -118,9 +104,10 @@ fn write_inserts(changes: &mut [u32], s: Session, from: usize, rows: Row)
     let mut row = rows;
     for i in 0..s.count as usize {
         if s.at[i] == tables::NEW {
-            write_insert(changes, s, i, p, row);
+            let v = Value(u32::from(s.to[i]));
+            tables::put_change(changes, p, row, toggled(0, Some(v)));
             p += 1;
-            row = next_row(row);
+            row.0 += 1;
         }
     }
 }

@@ -1,13 +1,13 @@
 -- The search for a clash: the later changes as one stretch; and step by step the records from one on, and in each the entries from one on.
 use mathlib.Core.Path.{◌≡◌, refl, sym, ap, ap₂, ◌∙◌}
-use mathlib.Core.Bool.{Bool, true, false, not, ◌||◌, or_assoc, or-false}
+use mathlib.Core.Bool.{Bool, false, ◌||◌, or_assoc, or-false}
 use mathlib.Core.List.{List}
-use Prim.Native.Nat.{ℕ, suc, ◌+◌, ◌≤◌, ◌<◌}
+use Prim.Native.Nat.{ℕ, zero, suc, ◌+◌, ◌-◌, ◌≤◌, ◌<◌}
 use native.Mathlib.Numerals.{add-one}
 use native.Mathlib.Omega.{arith}
-use borrow.Author.Tests.{not-true}
 use lib.Dec.{eqb}
 use lib.ListN.{get_or}
+use Rattle.std.specs.List.{list_any, range_with_len}
 use Rattle.bits.specs.Tab.{tab}
 use Rattle.rules.specs.State.{Change, Record, Entry}
 use Rattle.rules.specs.Log.{above, names}
@@ -43,7 +43,17 @@ module _ (changes : List ℕ) (row : ℕ) (w any : Bool) (p to : ℕ) (e : w ≡
   pub row-end : to ≤ p → any ≡ w
   row-end h = sym (e ∙ rw (stretch-none (change_at changes) p to h) (or-false any))
 
--- ---- a scan of a stretch: the whole is what the elements from i on say
+-- ---- a scan of places
+
+-- as the code asks for it
+pub some-any : {A : Type 0} (p : A → Bool) (f : ℕ → A) (n a b : ℕ) → b - a ≡ n
+    → list_any (λ k. p (f k)) (range_with_len a n) ≡ some_of p (stretch f a b)
+some-any p f zero a b e = rw (stretch-none f a b (omega arith))
+some-any p f (suc n) a b e =
+    rw (stretch-front f a b (omega arith), ← (add-one a))
+    (ap (λ (t : Bool). p (f a) || t) (some-any p f n (a + 1) b (omega arith)))
+
+-- the whole is what the elements from i on say
 
 module _ {A : Type 0} (p : A → Bool) (f : ℕ → A) (i n : ℕ) (w : Bool) (e : w ≡ some_of p (stretch f i n)) where
   pub some-ended : n ≤ i → false ≡ w
@@ -55,9 +65,6 @@ module _ {A : Type 0} (p : A → Bool) (f : ℕ → A) (i n : ℕ) (w : Bool) (e
 
     pub some-on : b ≡ false → w ≡ some_of p (stretch f (i + 1) n)
     some-on z = rw z at front
-
-    pub some-met : b ≡ true → true ≡ w
-    some-met z = sym (rw z at front)
 
 -- whether the changes name the row of an entry from i to n
 abbrev pub entries_hit : List Change → Session → ℕ → ℕ → Bool
@@ -95,11 +102,6 @@ module _ (log changes : List ℕ) (x : Session) where
       records-on h =
           some-on (named x) (record_at log changes) k last w e _ l refl (sym (some-ended (hits cs) (entry_at x) i n _ s h))
 
-      -- one is named
-      pub records-met : (b : Bool) → i < n → b ≡ hits cs (entry_at x i) → b ≡ true → true ≡ w
-      records-met b h q z =
-          some-met (named x) (record_at log changes) k last w e _ l refl (sym (some-met (hits cs) (entry_at x) i n _ s b h q z))
-
   module _ (last : ℕ) (s : Searched log changes x last) where
     abbrev clashes : Bool
     clashes = conflicts (tab (record_at log changes) last) x.start.0 (entries x)
@@ -109,13 +111,6 @@ module _ (log changes : List ℕ) (x : Session) where
     records-start =
         conflict-by-records (tab (record_at log changes) last) x.start.0 (entries x)
         ∙ ap (some_of (named x)) (drop-tab (record_at log changes) x.start.0 last s.start-old)
-
-    -- an end that is low: at record k, and at the one after
-    pub end_low : (k to : ℕ) → k ≤ last → to ≡ end_at log k → to ≤ 2048
-    end_low k to l e = omega (arith, s.ends_low k l)
-
-    pub next_low : (k to : ℕ) → k < last → to ≡ end_at log (k + 1) → to ≤ 2048
-    next_low k to l e = end_low (k + 1) to (omega arith) e
 
     -- ---- the search at one go
 
@@ -127,7 +122,3 @@ module _ (log changes : List ℕ) (x : Session) where
         (conflict-by-entries (tab (record_at log changes) last) x.start.0 (entries x)
         ∙ ap₂ (λ (es : List Entry) (cs : List Change). hits_list es cs) (listed x n o)
         (s.one-stretch ∙ ap₂ (stretch (change_at changes)) (sym p) (sym q)))
-
--- no change names a listed row
-pub none-clash : (w b : Bool) → b ≡ w → not b ≡ true → false ≡ w
-none-clash w b e h = sym (not-true b h) ∙ e

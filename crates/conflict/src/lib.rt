@@ -18,7 +18,7 @@ fn row_named(changes: &[u32], from: usize, to: usize, row: u32) -> bool
 {
     let mut any = false;
     for p in from..to {
-        any = any | (changes[p] == row);
+        any |= changes[p] == row;
     }
     any
 }
@@ -40,12 +40,7 @@ fn entries_named(changes: &[u32], from: usize, to: usize, s: Session, n: usize) 
     requires { (n ≤ 32) × (to ≤ 2048) × (4096 ≤ length changes.now) }
     ensures { result ≡ some_of (hits (stretch (change_at changes.now) from to)) (stretch (entry_at s) 0 n) }
 {
-    for i in 0..n {
-        if entry_named(changes, from, to, s, i) {
-            return true;
-        }
-    }
-    false
+    (0..n).any(|i| entry_named(changes, from, to, s, i))
 }
 
 // Whether the changes after the start, asked as one stretch, name a listed row.

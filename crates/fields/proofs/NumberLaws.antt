@@ -2,7 +2,7 @@
 use mathlib.Core.Path.{◌≡◌, refl, sym, ◌∙◌}
 use mathlib.Core.List.{List, [], ◌∷◌}
 use mathlib.Core.Bool.{Bool, true, false, cond, ◌&&◌, and-eq-true_iff}
-use mathlib.Core.Option.{Option, none, some, some-injective, none-ne-some}
+use mathlib.Core.Option.{Option, none, some}
 use Prim.Native.Nat.{ℕ, zero, suc, ◌+◌, ◌-◌, ◌*◌, ◌<◌, ◌≤◌}
 use native.Mathlib.Omega.{arith}
 use lib.Dec.{eqb, leb, leb-zero, leb-suc-zero, leb-suc-suc}
@@ -185,9 +185,10 @@ most (suc zero) = 999
 most (suc (suc zero)) = 99
 most (suc (suc (suc n))) = 9
 
-most-more : (left x y b : ℕ) → left ≤ 3 → (left ≡ 0 → ⊥) → x ≤ most left → is_digit b ≡ true → y ≡ b - 48 → x * 10 + y ≤ most (left - 1)
+pub most_step : (left x y b : ℕ) (d : Bool) → left ≤ 3 → (left ≡ 0 → ⊥) → x ≤ most left → d ≡ is_ascii_digit b → d ≡ true → y ≡ b - 48
+    → x * 10 + y ≤ most (left - 1)
 unfolding most
-most-more left x y b l n h u m = go left l n h (omega (arith, digit-high b u))
+most_step left x y b d l n h k u m = go left l n h (omega (arith, digit-high b (digit-yes b d k u)))
   where
     go : (left : ℕ) → left ≤ 3 → (left ≡ 0 → ⊥) → x ≤ most left → y ≤ 9 → x * 10 + y ≤ most (left - 1)
     go zero l n h e = absurd (n refl)
@@ -196,10 +197,6 @@ most-more left x y b l n h u m = go left l n h (omega (arith, digit-high b u))
     go (suc (suc (suc zero))) l n h e = omega arith
     go (suc (suc (suc (suc m)))) l n h e = omega arith
 
-pub most_step : (left x y b : ℕ) (d : Bool) → left ≤ 3 → (left ≡ 0 → ⊥) → x ≤ most left → d ≡ is_ascii_digit b → d ≡ true → y ≡ b - 48
-    → x * 10 + y ≤ most (left - 1)
-most_step left x y b d l n h k u m = most-more left x y b l n h (digit-yes b d k u) m
-
 pub most-le : (left x : ℕ) → x ≤ most left → x ≤ 9999
 unfolding most
 most-le zero x h = h
@@ -207,32 +204,6 @@ most-le (suc zero) x h = omega arith
 most-le (suc (suc zero)) x h = omega arith
 most-le (suc (suc (suc n))) x h = omega arith
 
-most_one : (y b : ℕ) → is_digit b ≡ true → y ≡ b - 48 → y ≤ most 3
-unfolding most
-most_one y b u m = omega (arith, digit-high b u)
-
 pub most-first : (y b : ℕ) (d : Bool) → d ≡ is_ascii_digit b → d ≡ true → y ≡ b - 48 → y ≤ most 3
-most-first y b d k u m = most_one y b (digit-yes b d k u) m
-
--- ---- a number is below 10,000
-
-digits_le : (left x : ℕ) (f : List ℕ) (y : ℕ) → left ≤ 3 → x ≤ most left → digits_from left x f ≡ some y → y ≤ 9999
-unfolding digits_from
-digits_le left x [] y l h e = let z = some-injective x y e in omega (arith, most-le left x h)
-digits_le zero x (b ∷ f) y l h e = absurd (none-ne-some y e)
-digits_le (suc left) x (b ∷ f) y l h e = go (is_digit b) refl (digits_le left (x * 10 + (b - 48)) f y (omega arith))
-  where
-    p : suc left - 1 ≡ left
-    p = omega arith
-
-    go : (t : Bool) → is_digit b ≡ t → (x * 10 + (b - 48) ≤ most left → digits_from left (x * 10 + (b - 48)) f ≡ some y → y ≤ 9999) → y ≤ 9999
-    go true q ih = ih (rw p at (most-more (suc left) x (b - 48) b l (λ z. omega arith) h q refl)) (rw q at e)
-    go false q ih = absurd (none-ne-some y (rw q at e))
-
-pub number-le : (f : List ℕ) (y : ℕ) → number f ≡ some y → y ≤ 9999
-number-le [] y e = absurd (none-ne-some y (sym number-empty ∙ e))
-number-le (b ∷ f) y e = go (is_digit b) refl (sym (number-first b f) ∙ e)
-  where
-    go : (t : Bool) → is_digit b ≡ t → cond (is_digit b) (digits_from 3 (b - 48) f) none ≡ some y → y ≤ 9999
-    go true q k = digits_le 3 (b - 48) f y (omega arith) (most_one (b - 48) b q refl) (rw q at k)
-    go false q k = absurd (none-ne-some y (rw q at k))
+unfolding most
+most-first y b d k u m = omega (arith, digit-high b (digit-yes b d k u))

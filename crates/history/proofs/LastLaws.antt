@@ -9,10 +9,11 @@ use Prim.Native.Nat.{ℕ, zero, suc, ◌+◌, ◌-◌, ◌≤◌, ◌<◌}
 use native.Mathlib.Omega.{arith}
 use native.Mathlib.Numerals.{add-one}
 use borrow.Author.Tests.{eq-eqb, ne_eqb, lt-ltb, le-ltb, ltb-true}
-use Rattle.std.specs.Prelude.{Some, None}
+use Rattle.std.specs.Prelude as kit
+use Rattle.std.specs.Prelude.{Some, None, MatchOption}
 use lib.Dec.{eqb, ltb}
 use lib.ListN.{replicate, length, take, drop, get_or}
-use Rattle.std.proofs.lemmas.List.{get_or-take, get_or-drop, length-take}
+use Rattle.std.proofs.lemmas.List.{length-take-le, get_or-take, get_or-drop, length-take}
 use Rattle.bits.proofs.Cases.{lt-cases}
 use Rattle.bits.specs.Choice.{or_else}
 use Rattle.bits.specs.Bit.{bit}
@@ -29,7 +30,7 @@ use Rattle.tables.specs.Cells.{change_row, change_set}
 use Rattle.tables.specs.Meaning.{change_at}
 use Rattle.tables.specs.Stretch.{stretch}
 use Rattle.tables.proofs.Stretch.{stretch-none, stretch-step, stretch-more, stretch-join}
-use Rattle.history.specs.Last.{place_of, set_of, change_before, last_place, last_set, last_of}
+use Rattle.history.specs.Last.{one_past, place_of, set_of, change_before, last_place, last_set, last_of}
 use Rattle.history.specs.Flips.{flipped_in, marked, RowsLow}
 
 module _ (changes : List ℕ) (row : ℕ) where
@@ -109,18 +110,34 @@ module _ (changes : List ℕ) (row : ℕ) where
         let back : e ≡ e - 64 + 64 = omega arith in
         i ∙ ap (last_place changes row) back ∙ place-skip (e - 64) 64 (sym q ∙ z)
 
-    pub place_none : e ≤ 0 → 0 ≡ w
-    unfolding last_place
-    place_none h = let z : e ≡ 0 = omega arith in sym (i ∙ ap (last_place changes row) z)
+  -- what the search backward through the first e changes finds
+  place-found : (e i : ℕ) → i < e → change_row changes i ≡ row → ((k : ℕ) → i < k → k < e → change_row changes k ≡ row → ⊥)
+      → i + 1 ≡ last_place changes row e
+  unfolding last_place
+  place-found zero i l q n = absurd (omega arith)
+  place-found (suc e) i l q n = go (lt-cases i e) (λ h. place-found e i h q (λ k x y. n k x (omega arith)))
+    where
+      go : (i < e) ⊎ (e ≤ i) → (i < e → i + 1 ≡ last_place changes row e) → i + 1 ≡ last_place changes row (suc e)
+      go (inl h) f = rw (ne_eqb (change_row changes e) row (n e h (omega arith))) (f h)
+      go (inr h) f = let z : i ≡ e = omega arith in rw (← z, eq-eqb (change_row changes i) row q, add-one i)
 
-    one-back : 0 < e → w ≡ cond (eqb (change_row changes (e - 1)) row) (e - 1 + 1) (last_place changes row (e - 1))
-    one-back h = let back : e ≡ e - 1 + 1 = omega arith in i ∙ ap (last_place changes row) back ∙ place-step (e - 1)
+  place-missing : (e : ℕ) → ((k : ℕ) → k < e → change_row changes k ≡ row → ⊥) → 0 ≡ last_place changes row e
+  unfolding last_place
+  place-missing zero n = refl
+  place-missing (suc e) n =
+      rw (ne_eqb (change_row changes e) row (n e (omega arith))) (place-missing e (λ k x. n k (omega arith)))
 
-    pub place_here : 0 < e → change_row changes (e - 1) ≡ row → e - 1 + 1 ≡ w
-    place_here h q = sym (one-back h ∙ rw (eq-eqb (change_row changes (e - 1)) row q))
-
-    pub place-past : 0 < e → (change_row changes (e - 1) ≡ row → ⊥) → w ≡ last_place changes row (e - 1)
-    place-past h n = one-back h ∙ rw (ne_eqb (change_row changes (e - 1)) row n)
+  pub place-is : (e : ℕ) (r : kit.Option ℕ)
+      → MatchOption r ((k : ℕ) → k < length (take e changes) → get_or (take e changes) k 0 ≡ row → ⊥)
+      (λ i. (i < length (take e changes)) × (get_or (take e changes) i 0 ≡ row)
+      × ((k : ℕ) → i < k → k < length (take e changes) → get_or (take e changes) k 0 ≡ row → ⊥))
+      → e ≤ length changes → one_past r ≡ last_place changes row e
+  place-is e None h l =
+      place-missing e (λ k x q. h k (omega (arith, length-take-le e changes l)) (get_or-take e changes k 0 x ∙ q))
+  place-is e (Some i) h l =
+      let x : i < e = omega (arith, h.0, length-take-le e changes l) in
+      place-found e i x (sym (get_or-take e changes i 0 x) ∙ h.1)
+      (λ k y z q. h.2 k y (omega (arith, length-take-le e changes l)) (get_or-take e changes k 0 z ∙ q))
 
   -- ---- its flip set
 

@@ -73,9 +73,9 @@ module _ (slots words heads log changes scratch : List ℕ) (s v : ℕ) where
     unfolding scratch_at scratch_since
     own-scratch z = rw (← count-is, z)
 
-    pub turned-found : (k : ℕ) → k ≡ n → ◌≡◌ {A = Found} (record { slot = base.slot; flips = k }) (found_at slots heads log changes s v)
+    pub turned-found : ◌≡◌ {A = Found} (record { slot = base.slot; flips = n }) (found_at slots heads log changes s v)
     unfolding found_at
-    turned-found k q = ap₂ (λ (x : Base) (j : ℕ). answer x.slot j) b (q ∙ count-is)
+    turned-found = ap₂ (λ (x : Base) (j : ℕ). answer x.slot j) b count-is
 
     pub turned-scratch : (n ≡ 0 → ⊥) → (d : List ℕ)
         → d ≡ front_filled (λ r. xorb (bit_at (slot_words words base.slot) r) (bit_at mask r)) scratch

@@ -3,7 +3,7 @@ use mathlib.Core.Path.{◌≡◌, refl, sym, ap, ap₂, ◌∙◌}
 use mathlib.Core.Bool.{Bool, true, false, not, ◌&&◌, cond, beq}
 use mathlib.Core.Option.{Option, none, some}
 use Rattle.std.specs.Prelude as kit
-use Rattle.std.specs.Prelude.{Some, None}
+use Rattle.std.specs.Prelude.{Some, None, MatchOption}
 use mathlib.Core.List.{List}
 use mathlib.Core.Logic.{◌⊎◌, inl, inr}
 use Prim.Native.Nat.{ℕ, ◌+◌, ◌≤◌, ◌<◌}
@@ -29,18 +29,15 @@ use Rattle.history.proofs.LastLaws.{last-since}
 -- ---- one value
 
 -- what `flipped_since` knows at its ends
-module _ (last : kit.Option Last) (from v : ℕ) where
-  pub since-some : (l : Last) (t : Bool) → last ≡ Some l → t ≡ bit l.set v → leb from l.at && t ≡ last_flips last from v
-  unfolding last_flips
-  since-some l t q e = rw (q, e) (ap (λ (b : Bool). b && bit l.set v) (below from l.at (lt-cases l.at from)))
-    where
-      below : (m n : ℕ) → (n < m) ⊎ (m ≤ n) → leb m n ≡ ltb m (n + 1)
-      below m n (inl h) = rw (lt-leb m n h, le-ltb m (n + 1) (omega arith))
-      below m n (inr h) = rw (le-leb m n h, lt-ltb m (n + 1) (omega arith))
-
-  pub since-none : last ≡ None → false ≡ last_flips last from v
-  unfolding last_flips
-  since-none q = rw (q, le-ltb from 0 (omega arith))
+pub since-is : (last : kit.Option Last) (from v : ℕ) (r : Bool) → MatchOption last (r ≡ false) (λ l. r ≡ leb from l.at && bit l.set v)
+    → r ≡ last_flips last from v
+unfolding last_flips
+since-is None from v r e = e ∙ sym (rw (le-ltb from 0 (omega arith)))
+since-is (Some l) from v r e = e ∙ ap (λ (b : Bool). b && bit l.set v) (below from l.at (lt-cases l.at from))
+  where
+    below : (m n : ℕ) → (n < m) ⊎ (m ≤ n) → leb m n ≡ ltb m (n + 1)
+    below m n (inl h) = rw (lt-leb m n h, le-ltb m (n + 1) (omega arith))
+    below m n (inr h) = rw (le-leb m n h, lt-ltb m (n + 1) (omega arith))
 
 differs : (a b : Bool) → not (beq a b) ≡ xorb a b
 differs true true = refl

@@ -19,10 +19,7 @@ pub struct Last {
 pub fn set_of(last: Option<Last>) -> u32
     ensures { result ≡ set_of last }
 {
-    match last {
-        Some(l) => l.set,
-        None => 0,
-    }
+    last.map_or(0, |l| l.set)
 }
 
 // Whether one of the 64 changes from `from` on names the row.
@@ -32,7 +29,7 @@ fn block_names(changes: &[u32], from: usize, row: u32) -> bool
 {
     let mut found = false;
     for c in &changes[from..from + 64] {
-        found = found | (*c == row);
+        found |= *c == row;
     }
     found
 }
@@ -58,12 +55,7 @@ fn last_place(changes: &[u32], to: usize, row: u32) -> Option<usize>
     ensures { one_past result ≡ last_place changes.now row to }
 {
     let end = blocks_before(changes, to, row);
-    for p in (0..end).rev() {
-        if changes[p] == row {
-            return Some(p);
-        }
-    }
-    None
+    changes[..end].iter().rposition(|c| *c == row)
 }
 
 // The last of the first `to` changes that names the row.
@@ -78,7 +70,7 @@ pub fn last_naming(changes: &[u32], to: usize, row: Row) -> Option<Last>
     })
 }
 
-// Whether one of the changes from `from` to `to` names the row.
+// Whether one of the changes from `from` to `to` names the row. A loop: `any` over the places took twice as long.
 pub fn named(changes: &[u32], from: usize, to: usize, row: Row) -> bool
     requires { (to ≤ 2048) × (4096 ≤ length changes.now) }
     ensures { result ≡ names (stretch (change_at changes.now) from to) row.0 }

@@ -34,6 +34,6 @@ pub fn query_at(t: NumberTables, scratch: &mut [u64], s: Stamp, v: Value) -> Fou
     vector::turn_over(scratch, t.words, base.slot, &mask);
     Found {
         slot: base.slot,
-        flips: bits::narrow(n),
+        flips: n as u32,
     }
 }

@@ -12,10 +12,7 @@ fn flipped_since(last: Option<Last>, from: usize, v: Value) -> bool
     requires { v.0 < 32 }
     ensures { result ≡ last_flips last from v.0 }
 {
-    match last {
-        Some(l) => (from <= l.at) & bits::has(l.set, v.0),
-        None => false,
-    }
+    last.is_some_and(|l| (from <= l.at) & bits::has(l.set, v.0))
 }
 
 // Whether the query of v at s has the row, whose last change up to s is `last`.

@@ -1,4 +1,6 @@
 -- Update, delete and insert: what each end of their parts and of their cores comes to.
+use Rattle.std.specs.Prelude as kit
+use Rattle.std.specs.Prelude.{Result, Ok, Err}
 use mathlib.Core.Path.{◌≡◌, sym, ◌∙◌}
 use mathlib.Core.Bool.{true, false, and-true, and-false}
 use mathlib.Core.Option.{Option}
@@ -12,22 +14,21 @@ use Rattle.rules.specs.Lists.{target, standing}
 use Rattle.rules.specs.Refusals.{is_full}
 use Rattle.tables.specs.declared.session.Session.{Session}
 use Rattle.tables.specs.declared.clock.Clock.{Clock}
+use Rattle.tables.specs.declared.counts.Value.{Value}
+use Rattle.tables.specs.declared.refusal.Refusal.{Refusal}
 use Rattle.tables.specs.declared.refusal.Refusal.TheVariants.{ListFull}
 use Rattle.tables.specs.Cells.{values_in}
 use Rattle.tables.specs.Clock.{clock_in}
 use Rattle.tables.specs.Sessions.{with_entry}
 use Rattle.tables.specs.Meaning.{target_of, entries}
 use Rattle.tables.proofs.Means.{length-entries}
-use Rattle.history.specs.declared.read.Standing.{Standing}
 use Rattle.history.specs.Read.{standing_of, read_cells, ReadReady}
-use Rattle.outcomes.specs.declared.answers.Relisted.{Relisted}
-use Rattle.outcomes.specs.declared.answers.Answer.TheVariants.{No}
 use Rattle.outcomes.specs.Outcome.{unless}
 use Rattle.outcomes.specs.Calls.{spot_of}
-use Rattle.outcomes.specs.Seats.{relists, relists_none, relisting}
+use Rattle.outcomes.specs.Seats.{list_answer, relisting}
 use Rattle.outcomes.specs.Opened.{SettlesAny}
 use Rattle.listing.specs.Change.{append_of, target_put, Stands}
-use Rattle.outcomes.proofs.Serving.{idle-relisting, idle-left, relisted-left}
+use Rattle.outcomes.proofs.Serving.{relisted-left}
 use Rattle.outcomes.proofs.OpenLaws.{open-list, listed-target, listed-lists, unlisted-target, unlisted-spot, unlisted-lists}
 
 -- ---- the standing value of a row
@@ -37,7 +38,7 @@ module _ (clock slots words heads log changes : List ℕ) (x : Session) (row spo
   abbrev read : Option ℕ
   read = read_cells slots words heads log changes (values_in clock) x.start.0 row
 
-  pub stands-listed : (n : ℕ) (held : Standing) → n ≡ x.count → spot < n → standing_of held ≡ target_of (get_or x.to spot 0)
+  pub stands-listed : (n : ℕ) (held : kit.Option Value) → n ≡ x.count → spot < n → standing_of held ≡ target_of (get_or x.to spot 0)
       → standing_of held ≡ standing (target (entries x) row) read
   stands-listed n held m l e = rw (e, s.spot_is, listed-target x row s.row_low (omega (arith, s.spot_is)))
 
@@ -45,7 +46,7 @@ module _ (clock slots words heads log changes : List ℕ) (x : Session) (row spo
   unfolding clock_in
   stands-ready c k = rw k s.readable
 
-  pub stands_read : (n : ℕ) (c : Clock) (held : Standing) → n ≡ x.count → n ≤ spot → c ≡ clock_in clock
+  pub stands_read : (n : ℕ) (c : Clock) (held : kit.Option Value) → n ≡ x.count → n ≤ spot → c ≡ clock_in clock
       → standing_of held ≡ read_cells slots words heads log changes c.values.0 x.start.0 row
       → standing_of held ≡ standing (target (entries x) row) read
   unfolding clock_in
@@ -63,37 +64,36 @@ not_full x h = lt-leb 32 (length (entries x)) (omega (arith, length-entries x))
 
 -- ---- an entry more
 
-module _ (x : Session) (at to : ℕ) (d : Relisted) where
-  abbrev Appends : Type 0
-  Appends = SettlesAny x (relisting d) d.answer (λ t n. append_of t n at to)
+-- what is left of an open session, as a part without tables comes to it
+module _ (x : Session) (at to : ℕ) where
+  abbrev Appends : Result Session Refusal → Type 0
+  Appends d = SettlesAny x (relisting d) (list_answer d) (λ t n. append_of t n at to)
 
-  pub append-full : 32 ≤ x.count → d ≡ relists_none ListFull → Appends
+  pub append-full : 32 ≤ x.count → Appends (Err ListFull)
   unfolding append_of unless
-  append-full l e n t o =
-      idle-left t [] n (relisting d n) d.answer (No ListFull) (idle-relisting d n ListFull e)
-      ∙ sym (rw (open-list t n x o, full x l))
+  append-full l n t o = sym (rw (open-list t n x o, full x l))
 
-  pub append-more : (i : ℕ) (y : Session) → x.count < 32 → i ≡ x.count → y ≡ with_entry x i at to (x.count + 1) → d ≡ relists y → Appends
+  pub append-more : (i : ℕ) (y : Session) → x.count < 32 → i ≡ x.count → y ≡ with_entry x i at to (x.count + 1) → Appends (Ok y)
   unfolding append_of with_entry unless
-  append-more i y l m w e n t o =
-      relisted-left t [] n d y o.place-low e
+  append-more i y l m w n t o =
+      relisted-left t [] n (Ok y) y o.place-low refl
       ∙ rw (w, m, open-list t n x o, not_full x l, o.own-there, le-ltb x.count x.count (omega arith))
 
 -- ---- a row's target
 
-module _ (x : Session) (row to : ℕ) (d : Relisted) (low : row < 65535) (spot : ℕ) (p : spot ≡ spot_of x row) (k : ℕ) (m : k ≡ x.count)
-    (at : ℕ) (a : at ≡ row) where
-  abbrev Puts : Type 0
-  Puts = SettlesAny x (relisting d) d.answer (λ t n. target_put t n row to)
+module _ (x : Session) (row to : ℕ) (d : Result Session Refusal) (low : row < 65535) (spot : ℕ) (p : spot ≡ spot_of x row) (k : ℕ)
+    (m : k ≡ x.count) (at : ℕ) (a : at ≡ row) where
+  abbrev Puts : Result Session Refusal → Type 0
+  Puts e = SettlesAny x (relisting e) (list_answer e) (λ t n. target_put t n row to)
 
-  pub target-there : (y : Session) → spot < k → y ≡ with_entry x spot at to x.count → d ≡ relists y → Puts
+  pub target-there : (y : Session) → spot < k → y ≡ with_entry x spot at to x.count → Puts (Ok y)
   unfolding target_put with_entry unless
-  target-there y l w e n t o =
+  target-there y l w n t o =
       let here : spot_of x row < x.count = omega arith in
-      relisted-left t [] n d y o.place-low e
+      relisted-left t [] n (Ok y) y o.place-low refl
       ∙ rw (w, p, a, open-list t n x o, listed-lists x row low here, and-false, o.own-there, lt-ltb (spot_of x row) x.count here)
 
-  pub target-new : k ≤ spot → Appends x at to d → Puts
+  pub target-new : k ≤ spot → Appends x at to d → Puts d
   unfolding target_put append_of
   target-new l f n t o =
       let off : x.count ≤ spot_of x row = omega arith in

@@ -1,15 +1,15 @@
 -- Update, delete and insert from the tests on the list on.
-use Rattle.std.specs.Prelude.{◌≡◌, List, [], ◌∷◌, ℕ, ◌≤◌, ◌<◌, length}
+use Rattle.std.specs.Prelude.{Result, ◌≡◌, List, [], ◌∷◌, ℕ, ◌≤◌, ◌<◌, length}
 use Rattle.rules.specs.State.{session}
 use Rattle.rules.specs.Refusals.{Test, first_of, no_row, row_absent, list_full_for, list_full}
 use Rattle.tables.specs.declared.session.Session.{Session}
+use Rattle.tables.specs.declared.refusal.Refusal.{Refusal}
 use Rattle.tables.specs.Cells.{Tables, values_in}
 use Rattle.tables.specs.Meaning.{meaning}
 use Rattle.history.specs.Read.{ReadReady}
-use Rattle.outcomes.specs.declared.answers.Relisted.{Relisted}
 use Rattle.outcomes.specs.Outcome.{Outcome, unless}
 use Rattle.outcomes.specs.Calls.{own, spot_of, listed_at, put_back}
-use Rattle.outcomes.specs.Seats.{relisting}
+use Rattle.outcomes.specs.Seats.{list_answer, relisting}
 use Rattle.outcomes.specs.Opened.{Settles}
 
 -- an entry set at a place of session n's list, unless a test refuses
@@ -39,5 +39,5 @@ pub record Stands (clock slots words heads log changes : List ℕ) (x : Session)
   pub spot_is : spot ≡ spot_of x row
 
 -- what update and delete promise from there on, of an open session at any place
-abbrev pub ChangesRow : (List Session → Tables) → Session → ℕ → ℕ → Relisted → Type 0
-ChangesRow lent x row to d = (n : ℕ) → Settles lent lent x n (relisting d n) d.answer (λ t. change_of t n row to)
+abbrev pub ChangesRow : (List Session → Tables) → Session → ℕ → ℕ → Result Session Refusal → Type 0
+ChangesRow lent x row to d = (n : ℕ) → Settles lent lent x n (relisting d n) (list_answer d) (λ t. change_of t n row to)

@@ -1,4 +1,5 @@
 -- Span: what each of its ends comes to.
+use Rattle.std.specs.Prelude.{Result, Ok, Err}
 use mathlib.Core.Path.{◌≡◌, refl, sym, ap, ◌∙◌}
 use mathlib.Core.Bool.{false, cond}
 use mathlib.Core.Option.{none, some}
@@ -21,6 +22,7 @@ use Rattle.tables.specs.declared.clock.Clock.{Clock}
 use Rattle.tables.specs.declared.session.Session.{Session}
 use Rattle.tables.specs.declared.refusal.Refusal.{Refusal}
 use Rattle.tables.specs.declared.refusal.Refusal.TheVariants.{NoValue, Backward, ShortList}
+use Rattle.tables.specs.Refusals.{number_of}
 use Rattle.tables.specs.Cells.{Tables, tables, values_in}
 use Rattle.tables.specs.Clock.{clock_in}
 use Rattle.tables.specs.Meaning.{meaning}
@@ -32,17 +34,14 @@ use Rattle.history.proofs.Meets.{span-meets}
 use Rattle.lent.specs.declared.seats.Seat.{Seat}
 use Rattle.outcomes.specs.declared.answers.Answer.{Answer}
 use Rattle.outcomes.specs.declared.answers.Answer.TheVariants as answer
-use Rattle.outcomes.specs.declared.enter.Test as asked
-use Rattle.outcomes.specs.declared.enter.Test.TheVariants.{Passed, No}
 use Rattle.outcomes.specs.Outcome.{Outcome, refusal_at}
 use Rattle.outcomes.specs.Span.{rows_of_span, listed_span, span_of}
 use Rattle.outcomes.specs.Seats.{seat_of, untouched, Serves}
-use Rattle.outcomes.specs.Enter.{why_of, valued_by}
+use Rattle.outcomes.specs.Enter.{valued_by}
 use Rattle.outcomes.proofs.Entered.{bare, Goes, Shows, Valued, valued-passed, valued-goes, valued-shows}
 use Rattle.outcomes.proofs.Serving.{idle, refused-outcome, accepted-outcome, valued-refused}
 
-module _ (clock slots words heads log changes list : List ℕ) (x : Seat) (n a b : ℕ) (test : asked.Test)
-    (q : why_of test ≡ valued_by clock slots words heads log changes x n a) where
+module _ (clock slots words heads log changes list : List ℕ) (x : Seat) (n a b : ℕ) where
   abbrev lent : List Session → Tables
   lent = tables clock slots words heads log changes
 
@@ -50,7 +49,7 @@ module _ (clock slots words heads log changes list : List ℕ) (x : Seat) (n a b
   start = x.session.start.0
 
   -- what a span leaves, that list being at its end
-  abbrev Spans : List ℕ → Answer → Type 0
+  abbrev Spans : List ℕ → Result Answer Refusal → Type 0
   Spans after r = Serves lent lent (after ∷ []) x n untouched r (λ t. span_of t list n a b)
 
   -- an accepted span
@@ -61,16 +60,15 @@ module _ (clock slots words heads log changes list : List ℕ) (x : Seat) (n a b
   abbrev rest : Tables → List Test
   rest t = no_value (meaning t) b ∷ backward a b ∷ short_list (meaning t) (session (meaning t) n) a b (length list) ∷ []
 
-  pub span-refused : (why : Refusal) → test ≡ No why → Spans list (answer.No why)
+  pub span-refused : (why : Refusal) → some (number_of why) ≡ valued_by clock slots words heads log changes x n a → Spans list (Err why)
   unfolding span_of tests
-  span-refused why h =
-      valued-refused clock slots words heads log changes (list ∷ []) x n (span n a b (length list)) done test why h untouched
-      (answer.No why)
+  span-refused why q =
+      valued-refused clock slots words heads log changes (list ∷ []) x n (span n a b (length list)) done why untouched (Err why)
       (idle _ _ refl) rest a (λ t. refl) q
 
-  module _ (h : test ≡ Passed) where
+  module _ (q : none ≡ valued_by clock slots words heads log changes x n a) where
     passed : Valued clock slots words heads log changes x.session n a
-    passed = valued-passed clock slots words heads log changes x n test h a q
+    passed = valued-passed clock slots words heads log changes x n a q
 
     pub span-clock : 6 ≤ length clock
     span-clock = (room-facts (bare clock slots words heads log changes) passed.room).clock-room
@@ -78,11 +76,11 @@ module _ (clock slots words heads log changes list : List ℕ) (x : Seat) (n a b
     module _ (ts : List Session) (e : x ≡ seat_of (lent ts) n) where
       went : Goes (lent ts) (span n a b (length list)) (rest (lent ts))
       unfolding tests
-      went = valued-goes (lent ts) n x e (span n a b (length list)) (rest (lent ts)) test a refl q h
+      went = valued-goes (lent ts) n x e (span n a b (length list)) (rest (lent ts)) a refl q
 
       shown : Shows (lent ts) n x.session
       unfolding tests
-      shown = valued-shows (lent ts) n x e (span n a b (length list)) (rest (lent ts)) test a refl q h
+      shown = valued-shows (lent ts) n x e (span n a b (length list)) (rest (lent ts)) a refl q
 
       -- 6, 20 and 21, of the session that the seat has
       rest-decides : refusal_at (lent ts) (span n a b (length list))
@@ -95,10 +93,10 @@ module _ (clock slots words heads log changes list : List ℕ) (x : Seat) (n a b
       unfolding clock_in
       values-are = ap (λ (y : Clock). y.values.0) k
 
-      pub span-no-value : c.values.0 ≤ b → Spans list (answer.No NoValue)
+      pub span-no-value : c.values.0 ≤ b → Spans list (Err NoValue)
       unfolding span_of
       span-no-value l ts e =
-          refused-outcome (lent ts) (list ∷ []) (span n a b (length list)) (done (lent ts)) NoValue untouched (answer.No NoValue)
+          refused-outcome (lent ts) (list ∷ []) (span n a b (length list)) (done (lent ts)) NoValue untouched (Err NoValue)
           (rest-decides ts e ∙ rw (le-leb (values_in clock) b (omega (arith, values-are)))) (idle _ _ refl)
 
       module _ (l : b < c.values.0) where
@@ -108,10 +106,10 @@ module _ (clock slots words heads log changes list : List ℕ) (x : Seat) (n a b
         known : leb (values_in clock) b ≡ false
         known = lt-leb (values_in clock) b low
 
-        pub span-backward : b < a → Spans list (answer.No Backward)
+        pub span-backward : b < a → Spans list (Err Backward)
         unfolding span_of
         span-backward o ts e =
-            refused-outcome (lent ts) (list ∷ []) (span n a b (length list)) (done (lent ts)) Backward untouched (answer.No Backward)
+            refused-outcome (lent ts) (list ∷ []) (span n a b (length list)) (done (lent ts)) Backward untouched (Err Backward)
             (rest-decides ts e ∙ rw (known, lt-ltb b a o)) (idle _ _ refl)
 
         pub span-readies : SpanReady slots words heads log changes start b
@@ -129,10 +127,10 @@ module _ (clock slots words heads log changes list : List ℕ) (x : Seat) (n a b
             length-decides : refusal_at (lent ts) (span n a b (length list)) ≡ cond (ltb (length list) m) (some 21) none
             length-decides = rest-decides ts e ∙ rw (known, le-ltb b a o, ← count-is)
 
-          pub span-short : length list < m → Spans list (answer.No ShortList)
+          pub span-short : length list < m → Spans list (Err ShortList)
           unfolding span_of
           span-short s ts e =
-              refused-outcome (lent ts) (list ∷ []) (span n a b (length list)) (done (lent ts)) ShortList untouched (answer.No ShortList)
+              refused-outcome (lent ts) (list ∷ []) (span n a b (length list)) (done (lent ts)) ShortList untouched (Err ShortList)
               (length-decides ts e ∙ rw (lt-ltb (length list) m s)) (idle _ _ refl)
 
           pub count_low : m < 4294967296
@@ -145,7 +143,7 @@ module _ (clock slots words heads log changes list : List ℕ) (x : Seat) (n a b
 
           -- the rows stand in the list
           pub span-lists : (after : List ℕ) (r : ℕ) → m ≤ length list → after ≡ over (rows_of all) list → r ≡ m
-              → Spans after (answer.Count r)
+              → Spans after (Ok (answer.Count r))
           unfolding span_of listed_span
           span-lists after r s f j ts e =
               rw (f, rows_are ts e, j, count-is ts e, ← (shown ts e).start-means)

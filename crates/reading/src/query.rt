@@ -39,23 +39,9 @@ pub fn picked<'a>(words: &'a [u64], scratch: &'a [u64], place: Place) -> &'a [u6
     ensures { result.now ≡ picked_from words.now scratch.now (place_of place) }
 {
     match place {
-        Place::Scratch => {
-            if scratch.len() < 32 {
-                return &scratch[..0];
-            }
-            &scratch[..32]
-        }
-        Place::Slot(i) => {
-            if 96 <= i {
-                return &words[..0];
-            }
-            let a = 32 * i;
-            let e = a + 32;
-            if words.len() < e {
-                return &words[..0];
-            }
-            &words[a..e]
-        }
+        Place::Scratch if 32 <= scratch.len() => &scratch[..32],
+        Place::Slot(i) if i < 96 && 32 * i + 32 <= words.len() => &words[32 * i..32 * i + 32],
+        _ => &words[..0],
     }
 }
 

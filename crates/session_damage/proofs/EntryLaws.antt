@@ -22,7 +22,8 @@ use Rattle.tables.proofs.Tests.{told, made, not_so, found-false}
 use Rattle.session_damage.proofs.OnceLaws.{once-few}
 
 -- a list whose rows and targets, each gathered in one number, are 0
-pub zero-gathered : (at to : List ℕ) (i j rows targets : ℕ) → rows ≡ or_below (λ k. get_or at k 0) i → targets ≡ or_below (λ k. get_or to k 0) j
+pub zero-gathered : (at to : List ℕ) (i j rows targets : ℕ) → rows ≡ or_below (λ k. get_or at k 0) i
+    → targets ≡ or_below (λ k. get_or to k 0) j
     → i ≡ 32 → j ≡ 32
     → eqb rows 0 && eqb targets 0 ≡ all_below (zero_at at to) 32
 unfolding zero_at

@@ -91,7 +91,8 @@ pub row_low : (at : List ℕ) (n i x row : ℕ) → row ≡ x → (x ≡ 65535 �
 unfolding RowsLow
 row_low at n i x row e m k h = omega (arith, h i k.in_list (λ z. m (k.stands ∙ z)), k.stands)
 
-module _ (at : List ℕ) (n i x : ℕ) (seen : List ℕ) (w : Bool) (e : w ≡ all_in (once_in at) i n) (s : Seen at i seen) (k : Entry at n i x) where
+module _ (at : List ℕ) (n i x : ℕ) (seen : List ℕ) (w : Bool) (e : w ≡ all_in (once_in at) i n) (s : Seen at i seen)
+    (k : Entry at n i x) where
   -- an insert
   pub insert-rest : x ≡ 65535 → w ≡ all_in (once_in at) (i + 1) n
   insert-rest h = scan-again (once_in at) w true i n e k.in_list (once-insert at i seen s (sym k.stands ∙ h)) refl

@@ -37,7 +37,7 @@ fn session_zero(s: Session) -> bool
     zero & list_zero(&s.at, &s.to)
 }
 
-// Whether an entry is a row below `rows` with a target, or an insert.
+// Whether an entry is a row below `rows` with a target, or an insert; the lent cells hold plain numbers, 255 for absent.
 #[tactic(auto, unfolding(tables::specs::Damage::entry_fits))]
 fn entry_fits(at: u16, to: u8, rows: u16, values: u8) -> bool
     ensures { result ≡ entry_fits values rows at to }
@@ -140,7 +140,7 @@ fn start_fits(start: Stamp, rows: Row, log: &[u32], c: Clock) -> bool
         && rows.0 == tables::rows_at(log, c.first, start).0
 }
 
-// Whether a session is free and all 0, or open and sound.
+// Whether a session is free and all 0, or open and sound; the lent cells hold plain numbers, 1 for open.
 pub fn session_fits(s: Session, log: &[u32], c: Clock) -> bool
     ensures { result ≡ session_judged s log.now c }
 {

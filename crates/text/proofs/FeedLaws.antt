@@ -1,5 +1,5 @@
 -- Laws of the code that gathers lines: blocks without a newline, bytes copied, and a line fed.
-use Rattle.std.proofs.Common.{◌≡◌, ℕ, zero, suc, ◌+◌, ◌-◌, ◌<◌, ◌≤◌, min, Bool, true, false, ◌||◌, eqb, List, [], ◌∷◌, ◌++◌, length, get_or, take, drop, set, sym, refl, ap, ◌∙◌, append_assoc, append-nil, add-one, arith, length-append, length-set, drop_of_length-le, length-take, length-take-le, take_all, drop-cons, take-suc, take-take, drop-drop, take_at}
+use Rattle.std.proofs.Common.{◌≡◌, ℕ, zero, suc, ◌+◌, ◌-◌, ◌<◌, ◌≤◌, min, Bool, true, false, ◌||◌, eqb, List, [], ◌∷◌, ◌++◌, length, get_or, take, drop, sym, refl, ap, ◌∙◌, append_assoc, append-nil, add-one, arith, length-append, drop_of_length-le, length-take, length-take-le, take_all, drop-cons, take-suc, take-take, drop-drop, take_at}
 use mathlib.Core.Bool.{or-false, or_assoc}
 use borrow.Author.Tests.{eqb-false}
 use Rattle.std.specs.Prelude.{Some, None}
@@ -55,27 +55,6 @@ block-step l from i r w h k e q =
 pub ends_same : (s : ℕ) (l : List ℕ) (from i k j r : ℕ) → end_at s l from ≡ end_at s l i → i ≡ k
     → (j ≤ length l) × (end_at s l k ≡ end_at s l j) → r ≡ end_at s l j → r ≡ end_at s l from
 ends_same s l from i k j r w z v e = e ∙ sym (w ∙ ap (end_at s l) z ∙ v.1)
-
--- ---- bytes copied: what is there, and what is still to come
-
-pub record Copying (entry out part : List ℕ) (at i : ℕ) : Type 0 where
-  pub list-is : sets entry at part ≡ sets out (at + i) (drop i part)
-  pub room : length out ≡ length entry
-
-pub copying-none : (d part : List ℕ) (at : ℕ) → Copying d d part at 0
-copying-none d part at = let z : at + 0 ≡ at = omega arith in record { list-is = rw z; room = refl }
-
-module _ (d out part : List ℕ) (at i : ℕ) (g : Copying d out part at i) where
-  pub copying-step : i < length part → Copying d (set out (at + i) (get_or part i 0)) part at (i + 1)
-  copying-step h =
-      let p : at + (i + 1) ≡ suc (at + i) = omega arith in
-      record {
-        list-is = g.list-is ∙ rw (drop-cons part i 0 h, p, add-one);
-        room = length-set out (at + i) (get_or part i 0) ∙ g.room;
-      }
-
-  pub copying-end : length part ≤ i → out ≡ sets d at part
-  copying-end h = sym (g.list-is ∙ rw (drop_of_length-le part {i = i} h))
 
 -- ---- gathered
 

@@ -1,7 +1,7 @@
 -- Whether a tidy is stale, a change at a time, and its other tests; in undamaged tables they are the rules' own.
 use mathlib.Core.Path.{◌≡◌, sym, ap, ◌∙◌}
 use mathlib.Core.Bool.{Bool, true, false, ◌||◌, or-true}
-use mathlib.Core.Option.{Option}
+use mathlib.Core.Option.{Option, none, some}
 use mathlib.Core.List.{List, [], ◌∷◌}
 use Prim.Native.Nat.{ℕ, ◌+◌, ◌*◌, ◌≤◌, ◌<◌}
 use native.Mathlib.Numerals.{add-one}
@@ -15,13 +15,10 @@ use Rattle.bits.specs.Words.{bit_at}
 use Rattle.rules.specs.Log.{some_change}
 use Rattle.rules.specs.Refusals.{first_of}
 use Rattle.tables.specs.declared.clock.Clock.{Clock}
-use Rattle.tables.specs.declared.refusal.Refusal.TheVariants.{NothingToMove, Stale, RecordsFull, ChangesFull, SlotsFull}
 use Rattle.tables.specs.Cells.{stamp_in, slots_in, changes_in, slot_stamp, head_of, end_at, change_row, change_set}
 use Rattle.tables.specs.Clock.{clock_in}
 use Rattle.tables.specs.Meaning.{change_at}
 use Rattle.tables.proofs.Stretch.{stretch-none, stretch-front}
-use Rattle.outcomes.specs.declared.enter.Test.TheVariants.{Passed, No}
-use Rattle.outcomes.specs.Enter.{why_of}
 use Rattle.tidying.specs.Tidy.{hinders, touched_in, stale_at, Datable, tidy_tests}
 
 -- ---- the changes, one after another: what is so far is said of those left
@@ -31,11 +28,11 @@ module _ (changes moved : List ℕ) (v to from p : ℕ) (i : touched_in changes 
   unfolding touched_in
   touched_none h = sym (i ∙ ap (some_change (hinders moved v)) (stretch-none (change_at changes) p to h))
 
-  module _ (h : p < to) (row q : ℕ) (b : Bool) (r : row ≡ change_row changes p) (w : q ≡ row) (e : b ≡ bit_at moved q) where
+  module _ (h : p < to) (row : ℕ) (b : Bool) (r : row ≡ change_row changes p) (e : b ≡ bit_at moved row) where
     -- the first of them
     front : touched_in changes from to moved v ≡ b || bit (change_set changes p) v || touched_in changes (p + 1) to moved v
     unfolding touched_in
-    front = i ∙ rw (stretch-front (change_at changes) p to h, add-one, e, w, r)
+    front = i ∙ rw (stretch-front (change_at changes) p to h, add-one, e, r)
 
     pub touched-row : b ≡ true → true ≡ touched_in changes from to moved v
     touched-row z = sym (front ∙ rw z)
@@ -77,7 +74,7 @@ module _ (clock slots heads log changes : List ℕ) (s v : ℕ) (moved : List �
   abbrev answer : Option ℕ
   answer = first_of (tidy_tests clock slots heads log changes s v moved)
 
-  pub none-moved : n ≡ 0 → why_of (No NothingToMove) ≡ answer
+  pub none-moved : n ≡ 0 → some 13 ≡ answer
   unfolding tidy_tests
   none-moved z = rw (← m, eq-eqb n 0 z)
 
@@ -88,23 +85,23 @@ module _ (clock slots heads log changes : List ℕ) (s v : ℕ) (moved : List �
     unfolding tidy_tests clock_in
     later = rw (← m, ne_eqb n 0 a, e, k)
 
-    pub is-stale : r ≡ true → why_of (No Stale) ≡ answer
+    pub is-stale : r ≡ true → some 14 ≡ answer
     is-stale z = sym (later ∙ rw z)
 
     module _ (b : r ≡ false) where
-      pub records-full : 512 ≤ c.stamp.0 → why_of (No RecordsFull) ≡ answer
+      pub records-full : 512 ≤ c.stamp.0 → some 16 ≡ answer
       records-full h = sym (later ∙ rw (b, le-leb 512 c.stamp.0 h))
 
-      module _ (d : c.stamp.0 < 512) (used wide : ℕ) (u : used ≡ changes_in clock) (w : wide ≡ used) where
-        pub changes-full : 2048 < wide + n → why_of (No ChangesFull) ≡ answer
-        changes-full h = sym (later ∙ rw (b, lt-leb 512 c.stamp.0 d, ← u, ← w, lt-ltb 2048 (wide + n) h))
+      module _ (d : c.stamp.0 < 512) (used : ℕ) (u : used ≡ changes_in clock) where
+        pub changes-full : 2048 < used + n → some 17 ≡ answer
+        changes-full h = sym (later ∙ rw (b, lt-leb 512 c.stamp.0 d, ← u, lt-ltb 2048 (used + n) h))
 
-        module _ (f : wide + n ≤ 2048) (slot : ℕ) (g : slot ≡ slots_in clock) where
+        module _ (f : used + n ≤ 2048) (slot : ℕ) (g : slot ≡ slots_in clock) where
           last : answer ≡ first_of ((leb 96 slot, 18) ∷ [])
-          last = later ∙ rw (b, lt-leb 512 c.stamp.0 d, ← u, ← w, le-ltb 2048 (wide + n) f, g)
+          last = later ∙ rw (b, lt-leb 512 c.stamp.0 d, ← u, le-ltb 2048 (used + n) f, g)
 
-          pub slots-full : 96 ≤ slot → why_of (No SlotsFull) ≡ answer
+          pub slots-full : 96 ≤ slot → some 18 ≡ answer
           slots-full h = sym (last ∙ rw (le-leb 96 slot h))
 
-          pub all-passed : slot < 96 → why_of Passed ≡ answer
+          pub all-passed : slot < 96 → none ≡ answer
           all-passed h = sym (last ∙ rw (lt-leb 96 slot h))

@@ -1,4 +1,5 @@
 -- A tidy as a whole: its record and clock, all tables after it, and what the call comes to.
+use Rattle.std.specs.Prelude.{Result, Ok, Err}
 use mathlib.Core.Path.{◌≡◌, refl, sym, ap, ap₂, ◌∙◌}
 use mathlib.Core.Option.{Option, none, some}
 use mathlib.Core.List.{List, [], ◌∷◌}
@@ -16,6 +17,7 @@ use Rattle.rules.proofs.Tests.{all-fail}
 use Rattle.tables.specs.declared.clock.Clock.{Clock}
 use Rattle.tables.specs.declared.session.Session.{Session}
 use Rattle.tables.specs.declared.refusal.Refusal.{Refusal}
+use Rattle.tables.specs.Refusals.{number_of}
 use Rattle.tables.specs.Cells.{Tables, tables, stamp_in, slots_in, changes_in, end_at}
 use Rattle.tables.specs.Clock.{clock_in, later}
 use Rattle.tables.specs.Meaning.{meaning}
@@ -25,16 +27,13 @@ use Rattle.history.specs.Flips.{flipped_in, RowsLow}
 use Rattle.history.proofs.Ready.{based, rows-low}
 use Rattle.outcomes.specs.declared.answers.Answer.{Answer}
 use Rattle.outcomes.specs.declared.answers.Answer.TheVariants.{At}
-use Rattle.outcomes.specs.declared.answers.Answer.TheVariants as answer
 use Rattle.lent.specs.declared.seats.Seat.{Seat}
-use Rattle.outcomes.specs.declared.enter.Test as asked
-use Rattle.outcomes.specs.declared.enter.Test.TheVariants.{Passed, No}
-use Rattle.outcomes.specs.Said.{said, numbers}
+use Rattle.outcomes.specs.Said.{numbers_of, numbers}
 use Rattle.outcomes.specs.Outcome.{Outcome, outcome, unless}
 use Rattle.outcomes.specs.Stores.{stores}
 use Rattle.outcomes.specs.Calls.{own, tidy_stores, tidy_of}
 use Rattle.outcomes.specs.Seats.{untouched, Serves}
-use Rattle.outcomes.specs.Enter.{why_of, valued_by}
+use Rattle.outcomes.specs.Enter.{valued_by}
 use Rattle.tidying.specs.declared.tidy.Plan.{Plan}
 use Rattle.tidying.specs.Tidy.{tidy_tests, RowsPut, Puttable, Fillable, VersionPut, Tidyable, TidyReady, Plannable, plan_of}
 use Rattle.tidying.specs.Tidy.{moved_in, tidy_clock, tidy_log, tidied_cells, Tidied, tidy_cells, Tidies}
@@ -78,7 +77,7 @@ module _ (clock : List ℕ) where
     unfolding later clock_in
     clock-tidied clock' q = rw (q, n, s, u)
 
-    pub tidy-said : said (At next.stamp (record { 0 = moved })) ≡ numbers ((stamp_in clock + 1) ∷ moved ∷ [])
+    pub tidy-said : numbers_of (At next.stamp (record { 0 = moved })) ≡ numbers ((stamp_in clock + 1) ∷ moved ∷ [])
     unfolding later clock_in
     tidy-said = rw n
 
@@ -88,11 +87,11 @@ module _ (clock log moved : List ℕ) (s : ℕ) where
   pub plan-ticks : Plannable clock log s moved → (c : Clock) → c ≡ clock_in clock → c.stamp.0 < 4294967295
   plan-ticks f c e = stamp-fits clock c e f.stamp-low
 
-  pub plan-is : (c next : Clock) (slot used wide to n m : ℕ) → c ≡ clock_in clock → next ≡ later c c.rows → slot ≡ slots_in clock
-      → used ≡ changes_in clock → wide ≡ used → to ≡ end_at log s → n ≡ count_of moved → m ≡ n
-      → record { next = next; slot = slot; used = wide; to = to; count = m } ≡ plan_of clock log s moved
+  pub plan-is : (c next : Clock) (slot used to n : ℕ) → c ≡ clock_in clock → next ≡ later c c.rows → slot ≡ slots_in clock
+      → used ≡ changes_in clock → to ≡ end_at log s → n ≡ count_of moved
+      → record { next = next; slot = slot; used = used; to = to; count = n } ≡ plan_of clock log s moved
   unfolding plan_of
-  plan-is c next slot used wide to n m e h k u w t a b = rw (h, e, k, w, u, t, b, a)
+  plan-is c next slot used to n e h k u t a = rw (h, e, k, u, t, a)
 
 module _ (clock slots words heads log changes moved : List ℕ) (s v : ℕ) (f : TidyReady clock slots words heads log changes s v moved) where
   module _ (p : Plan) (e : p ≡ plan_of clock log s moved) where
@@ -114,7 +113,7 @@ module _ (clock slots words heads log changes moved : List ℕ) (s v : ℕ) (f :
         → VersionPut slots words heads log changes p.slot p.next.stamp.0 s v slots' words' heads'
         → RowsPut (rows_of moved) p.used p.to v changes changes' z
         → (clock' ≡ tidy_clock clock p.count) × (log' ≡ tidy_log clock log p.count)
-        × (said r ≡ numbers ((stamp_in clock + 1) ∷ p.count ∷ []))
+        × (numbers_of r ≡ numbers ((stamp_in clock + 1) ∷ p.count ∷ []))
         → Tidied (tables clock slots words heads log changes) (tables clock' slots' words' heads' log' changes') s v moved r
     unfolding tidied_cells plan_of later clock_in
     tidy-done z clock' slots' words' heads' log' changes' r x y w = λ ts.
@@ -131,8 +130,8 @@ passing clock slots heads log changes s v moved e =
     let p = all-fail (tidy_tests clock slots heads log changes s v moved) e in
     (leb-false _ _ p.1.1.0, ltb-false _ _ p.1.1.1.0, leb-false _ _ p.1.1.1.1.0)
 
-module _ (clock slots words heads log changes : List ℕ) (s v to : ℕ) (moved : List ℕ) (go : asked.Test) (a : to ≡ end_at log s)
-    (m : moved ≡ vec (flipped_in changes 0 to v) 32) (q : why_of go ≡ first_of (tidy_tests clock slots heads log changes s v moved)) where
+module _ (clock slots words heads log changes : List ℕ) (s v to : ℕ) (moved : List ℕ) (a : to ≡ end_at log s)
+    (m : moved ≡ vec (flipped_in changes 0 to v) 32) where
   abbrev lent : List Session → Tables
   lent = tables clock slots words heads log changes
 
@@ -140,25 +139,26 @@ module _ (clock slots words heads log changes : List ℕ) (s v to : ℕ) (moved 
   unfolding moved_in
   moved-is = m ∙ ap (λ (k : ℕ). vec (flipped_in changes 0 k v) 32) a
 
-  why-is : why_of go ≡ first_of (tidy_tests clock slots heads log changes s v (moved_in log changes s v))
-  why-is = q ∙ ap (λ (w : List ℕ). first_of (tidy_tests clock slots heads log changes s v w)) moved-is
+  why-is : (o : Option ℕ) → o ≡ first_of (tidy_tests clock slots heads log changes s v moved)
+      → o ≡ first_of (tidy_tests clock slots heads log changes s v (moved_in log changes s v))
+  why-is o q = q ∙ ap (λ (w : List ℕ). first_of (tidy_tests clock slots heads log changes s v w)) moved-is
 
-  pub tidy-refuses : (why : Refusal) → go ≡ No why → Tidies lent lent s v (answer.No why)
+  pub tidy-refuses : (why : Refusal) → some (number_of why) ≡ first_of (tidy_tests clock slots heads log changes s v moved)
+      → Tidies lent lent s v (Err why)
   unfolding tidy_cells unless
-  tidy-refuses why h = λ ts.
+  tidy-refuses why q = λ ts.
       let o = tidied_cells (lent ts) s v (moved_in log changes s v) in
-      ap (λ (w : Option ℕ). unless w (lent ts) [] o) (sym (ap why_of h) ∙ why-is)
+      ap (λ (w : Option ℕ). unless w (lent ts) [] o) (why-is (some (number_of why)) q)
 
-  module _ (h : go ≡ Passed) where
+  module _ (q : none ≡ first_of (tidy_tests clock slots heads log changes s v moved)) where
     pub tidy-ready : Tidyable clock slots words heads log changes s v → TidyReady clock slots words heads log changes s v moved
-    tidy-ready f = let p = passing clock slots heads log changes s v moved (sym q ∙ ap why_of h) in search
+    tidy-ready f = let p = passing clock slots heads log changes s v moved (sym q) in search
 
-    pub tidy-answers : (after : List Session → Tables) (r : Answer) → Tidied lent after s v moved r → Tidies lent after s v r
+    pub tidy-answers : (after : List Session → Tables) (r : Answer) → Tidied lent after s v moved r → Tidies lent after s v (Ok r)
     unfolding tidy_cells unless
     tidy-answers after r f = λ ts.
         let o = tidied_cells (lent ts) s v (moved_in log changes s v) in
-        f ts ∙ ap (tidied_cells (lent ts) s v) moved-is
-        ∙ ap (λ (w : Option ℕ). unless w (lent ts) [] o) (sym (ap why_of h) ∙ why-is)
+        f ts ∙ ap (tidied_cells (lent ts) s v) moved-is ∙ ap (λ (w : Option ℕ). unless w (lent ts) [] o) (why-is none q)
 
 -- the changes that the moved rows are told by
 pub moved-rows : (clock slots words heads log changes : List ℕ) (s v to : ℕ) → Tidyable clock slots words heads log changes s v
@@ -174,22 +174,22 @@ unfolding unless
 unless-same none t a b h = h refl
 unless-same (some n) t a b h = refl
 
-module _ (clock slots words heads log changes : List ℕ) (x : Seat) (n v : ℕ) (test : asked.Test)
-    (q : why_of test ≡ valued_by clock slots words heads log changes x n v) where
+module _ (clock slots words heads log changes : List ℕ) (x : Seat) (n v : ℕ) where
   abbrev given : List Session → Tables
   given = tables clock slots words heads log changes
 
-  pub tidy-refused : (why : Refusal) → test ≡ No why → Serves given given [] x n untouched (answer.No why) (λ t. tidy_of t n v)
+  pub tidy-refused : (why : Refusal) → some (number_of why) ≡ valued_by clock slots words heads log changes x n v
+      → Serves given given [] x n untouched (Err why) (λ t. tidy_of t n v)
   unfolding tidy_of tests
-  tidy-refused why h =
+  tidy-refused why q =
       valued-refused clock slots words heads log changes [] x n (tidy n v)
       (λ t. let s = (own t n).start.0 in
       outcome (stores t (tidy_stores t s v)) [] (numbers ((stamp_in t.clock + 1) ∷ length (moved (meaning t).log s v) ∷ [])))
-      test why h untouched (answer.No why) (idle _ _ refl) (λ t. rest_tests t v (session (meaning t) n)) v (λ t. refl) q
+      why untouched (Err why) (idle _ _ refl) (λ t. rest_tests t v (session (meaning t) n)) v (λ t. refl) q
 
-  module _ (h : test ≡ Passed) where
+  module _ (q : none ≡ valued_by clock slots words heads log changes x n v) where
     valued : Valued clock slots words heads log changes x.session n v
-    valued = valued-passed clock slots words heads log changes x n test h v q
+    valued = valued-passed clock slots words heads log changes x n v q
 
     pub tidyable : Tidyable clock slots words heads log changes x.session.start.0 v
     tidyable =
@@ -210,14 +210,14 @@ module _ (clock slots words heads log changes : List ℕ) (x : Seat) (n v : ℕ)
           end-old = end-high clock log p.records-fit s y.start-old;
         }
 
-    pub tidy-served : (after : List Session → Tables) (a : Answer) → Tidies given after x.session.start.0 v a
+    pub tidy-served : (after : List Session → Tables) (a : Result Answer Refusal) → Tidies given after x.session.start.0 v a
         → Serves given after [] x n untouched a (λ t. tidy_of t n v)
     unfolding tidy_of tidy_cells tests
     tidy-served after a f = λ ts e.
         let t = given ts in
         let s = x.session.start.0 in
-        let g = valued-goes t n x e (tidy n v) (rest_tests t v (session (meaning t) n)) test v refl q h in
-        let w = valued-shows t n x e (tidy n v) (rest_tests t v (session (meaning t) n)) test v refl q h in
+        let g = valued-goes t n x e (tidy n v) (rest_tests t v (session (meaning t) n)) v refl q in
+        let w = valued-shows t n x e (tidy n v) (rest_tests t v (session (meaning t) n)) v refl q in
         let o : ℕ → Outcome = λ k. outcome (stores t (tidy_stores t k v)) []
         (numbers ((stamp_in t.clock + 1) ∷ length (moved (meaning t).log k v) ∷ [])) in
         let low : s ≤ stamp_in clock = w.facts.start-old in

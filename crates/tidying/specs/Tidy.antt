@@ -1,5 +1,5 @@
 -- Tidy on the cells: its tests, its changes, its slot, its record, and what each part of it needs.
-use Rattle.std.specs.Prelude.{◌≡◌, Bool, ◌||◌, List, [], ◌∷◌, map, ℕ, ◌+◌, ◌*◌, ◌≤◌, ◌<◌, eqb, leb, ltb, length, set}
+use Rattle.std.specs.Prelude.{Result, ◌≡◌, Bool, ◌||◌, List, [], ◌∷◌, map, ℕ, ◌+◌, ◌*◌, ◌≤◌, ◌<◌, eqb, leb, ltb, length, set}
 use Rattle.bits.specs.Bit.{bit, clear_bit}
 use Rattle.bits.specs.Part.{put_part}
 use Rattle.bits.specs.Rows.{count_of, rows_of}
@@ -9,6 +9,7 @@ use Rattle.rules.specs.State.{Change}
 use Rattle.rules.specs.Log.{some_change}
 use Rattle.rules.specs.Refusals.{Test, first_of}
 use Rattle.tables.specs.declared.session.Session.{Session}
+use Rattle.tables.specs.declared.refusal.Refusal.{Refusal}
 use Rattle.tables.specs.Cells.{Tables, tables, stamp_in, rows_in, slots_in, changes_in, slot_stamp, head_of, end_at}
 use Rattle.tables.specs.Clock.{clock_in, later}
 use Rattle.tables.specs.Meaning.{change_at}
@@ -21,7 +22,7 @@ use Rattle.history.specs.Flips.{flipped_in, RowsLow}
 use Rattle.history.specs.Query.{queried_at}
 use Rattle.outcomes.specs.declared.answers.Answer.{Answer}
 use Rattle.tidying.specs.declared.tidy.Plan.{Plan}
-use Rattle.outcomes.specs.Said.{said, numbers}
+use Rattle.outcomes.specs.Said.{numbers_of, said, numbers}
 use Rattle.outcomes.specs.Outcome.{Outcome, outcome, unless}
 use Rattle.outcomes.specs.Stores.{put_changes}
 
@@ -152,7 +153,7 @@ tidied_cells t s v moved =
 
 -- a tidy that is done, whatever the session table is
 abbrev pub Tidied : (List Session → Tables) → (List Session → Tables) → ℕ → ℕ → List ℕ → Answer → Type 0
-Tidied before after s v moved a = (ts : List Session) → outcome (after ts) [] (said a) ≡ tidied_cells (before ts) s v moved
+Tidied before after s v moved a = (ts : List Session) → outcome (after ts) [] (numbers_of a) ≡ tidied_cells (before ts) s v moved
 
 -- a tidy that its own tests may refuse
 unfoldable pub tidy_cells : Tables → ℕ → ℕ → Outcome
@@ -160,5 +161,5 @@ tidy_cells t s v =
     let moved = moved_in t.log t.changes s v in
     unless (first_of (tidy_tests t.clock t.slots t.heads t.log t.changes s v moved)) t [] (tidied_cells t s v moved)
 
-abbrev pub Tidies : (List Session → Tables) → (List Session → Tables) → ℕ → ℕ → Answer → Type 0
+abbrev pub Tidies : (List Session → Tables) → (List Session → Tables) → ℕ → ℕ → Result Answer Refusal → Type 0
 Tidies before after s v a = (ts : List Session) → outcome (after ts) [] (said a) ≡ tidy_cells (before ts) s v

@@ -1,5 +1,5 @@
 // A column of bytes as vectors, one for each value.
-ghost use Rattle.std.specs.Prelude.{◌≡◌, ◌+◌, ◌-◌, ◌*◌, ◌≤◌, ◌<◌, length};
+ghost use Rattle.std.specs.Prelude.{◌≡◌, ◌*◌, ◌≤◌, ◌<◌, length};
 ghost use Rattle.bits.specs.Column.{column_bit, in_word, with_rows, Gathered, Gatherable};
 
 use crate::words;

@@ -35,7 +35,7 @@ pub fn get(ws: &[u64], row: usize) -> bool
     i < ws.len() && has_bit(ws[i], row % 64)
 }
 
-// Whether row `row` of one vector is set.
+// Whether row `row` of one vector is set, with no test of a length: it is asked for each entry of a session's list.
 #[tactic(auto, unfolding(bits::specs::Words::bit_at))]
 pub fn get_in(ws: &[u64; 32], row: usize) -> bool
     requires { row < 2048 }

@@ -12,14 +12,14 @@ clash-requires c = search ready-searched
 pub returns-then-clash : goal.returns-then-clash
 returns-then-clash c = search list-clashes
 
-pub overflow_add-rows : goal.overflow_add-rows
-overflow_add-rows c = search ready-rows-few
+pub overflow_add-c : goal.overflow_add-c
+overflow_add-c c = search ready-rows-few
 
-pub returns-then-rows-inserts-gt-MAX_ROWS : goal.returns-then-rows-inserts-gt-MAX_ROWS
-returns-then-rows-inserts-gt-MAX_ROWS c = search rows_pass
+pub returns-then-c-inserts-gt-MAX_ROWS : goal.returns-then-c-inserts-gt-MAX_ROWS
+returns-then-c-inserts-gt-MAX_ROWS c = search rows_pass
 
-pub returns-then-stamp-ge-MAX_RECORDS : goal.returns-then-stamp-ge-MAX_RECORDS
-returns-then-stamp-ge-MAX_RECORDS c = search records-full
+pub returns-then-c-ge-MAX_RECORDS : goal.returns-then-c-ge-MAX_RECORDS
+returns-then-c-ge-MAX_RECORDS c = search records-full
 
 pub returns-then-changes_used-s-gt-MAX_CHANGES : goal.returns-then-changes_used-s-gt-MAX_CHANGES
 returns-then-changes_used-s-gt-MAX_CHANGES c = search changes-pass

@@ -5,8 +5,8 @@ use Rattle.committing.proofs.writes.write_changes.Goals as goal
 pub clock_of-c-requires : goal.clock_of-c-requires
 clock_of-c-requires c = search work-clock
 
-pub changes_used-requires : goal.changes_used-requires
-changes_used-requires c = search work-clock
+pub changes_used-from-requires : goal.changes_used-from-requires
+changes_used-from-requires c = search work-clock
 
 pub write_rows-p-requires : goal.write_rows-p-requires
 write_rows-p-requires c = search work-rows

@@ -9,18 +9,18 @@ use Rattle.committing.proofs.writes.write_inserts.Goals.{then-s-i, else-s-i}
 pub loop-i-preserved : goal.loop-i-preserved
 loop-i-preserved c =
     elim c.if-s-i.branch [
-      | then-s-i w ↦ (omega arith, search length-put, omega arith, search inserts-more)
-      | else-s-i w ↦ (omega arith, (cc), omega arith, search inserts-skip)
+      | then-s-i w ↦ (search length-put, omega arith, search inserts-more)
+      | else-s-i w ↦ (cc, omega arith, search inserts-skip)
     ]
 
 pub loop-i-init : goal.loop-i-init
-loop-i-init c = (omega arith, refl, omega arith, search inserts-start)
+loop-i-init c = (refl, omega arith, search inserts-start)
 
-pub write_insert-requires : goal.write_insert-requires
-write_insert-requires c = (omega arith, search insert-place, omega arith)
+pub put_change-requires : goal.put_change-requires
+put_change-requires c = (search insert-place, omega arith)
 
-pub next_row-row-requires : goal.next_row-row-requires
-next_row-row-requires c = search insert-row
+pub overflow_add-row : goal.overflow_add-row
+overflow_add-row c = search insert-row
 
 pub returns : goal.returns
 returns c = search inserts-all

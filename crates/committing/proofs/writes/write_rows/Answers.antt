@@ -8,12 +8,12 @@ use Rattle.committing.proofs.writes.write_rows.Goals.{then-s-i, else-s-i}
 pub loop-i-preserved : goal.loop-i-preserved
 loop-i-preserved c =
     elim c.if-s-i.branch [
-      | then-s-i w ↦ (omega arith, search length-put, omega arith, search rows_more)
-      | else-s-i w ↦ (omega arith, (cc), omega arith, search rows-skip)
+      | then-s-i w ↦ (search length-put, omega arith, search rows_more)
+      | else-s-i w ↦ (cc, omega arith, search rows-skip)
     ]
 
 pub loop-i-init : goal.loop-i-init
-loop-i-init c = (omega arith, refl, omega arith, search rows_start)
+loop-i-init c = (refl, omega arith, search rows_start)
 
 pub write_row-requires : goal.write_row-requires
 write_row-requires c = search row-ready

@@ -1,24 +1,19 @@
 -- `query::picked` meets its contract.
-use lib.Seq.{length-take-le}
-use native.Mathlib.Omega.{arith}
-use mathlib.Core.Path.{sym}
 use Rattle.reading.proofs.PickLaws.{pick-none, pick-scratch, pick-past, pick-short, pick-slot}
 use Rattle.reading.proofs.query.picked.Goals as goal
+use Rattle.reading.proofs.query.picked.Goals.{in_default-via-in-Scratch+else-scratch-ge32}
+use Rattle.reading.proofs.query.picked.Goals.{in_default-via-in-Slot+then-i-lt96+else-i-words, in_default-via-in-Slot+else-i-lt96}
 
-pub returns-then-scratch-lt32 : goal.returns-then-scratch-lt32
-returns-then-scratch-lt32 c = search pick-none
+pub returns-in-Scratch : goal.returns-in-Scratch
+returns-in-Scratch c = search pick-scratch
 
-pub slice_bounds-result-end-in-Scratch : goal.slice_bounds-result-end-in-Scratch
-slice_bounds-result-end-in-Scratch c = sym (length-take-le 32 c.args.scratch.now (omega arith))
+pub returns-in-Slot : goal.returns-in-Slot
+returns-in-Slot c = search pick-slot
 
-pub returns-then-i-ge96 : goal.returns-then-i-ge96
-returns-then-i-ge96 c = search pick-past
-
-pub returns-then-words-e : goal.returns-then-words-e
-returns-then-words-e c = search pick-short
-
-pub returns-else-scratch-lt32 : goal.returns-else-scratch-lt32
-returns-else-scratch-lt32 c = search pick-scratch
-
-pub returns-else-words-e : goal.returns-else-words-e
-returns-else-words-e c = search pick-slot
+pub returns-in_default : goal.returns-in_default
+returns-in_default c =
+    elim c.in_default.branch [
+      | in_default-via-in-Scratch+else-scratch-ge32 w ↦ search pick-none
+      | in_default-via-in-Slot+then-i-lt96+else-i-words w ↦ search pick-short
+      | in_default-via-in-Slot+else-i-lt96 w ↦ search pick-past
+    ]

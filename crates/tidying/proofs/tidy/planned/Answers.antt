@@ -2,8 +2,8 @@
 use Rattle.tidying.proofs.TidyLaws.{plan-ticks, plan-is}
 use Rattle.tidying.proofs.tidy.planned.Goals as goal
 
-pub ticked-next-requires : goal.ticked-next-requires
-ticked-next-requires c = search plan-ticks
+pub ticked-requires : goal.ticked-requires
+ticked-requires c = search plan-ticks
 
 pub returns : goal.returns
 returns c = search plan-is

@@ -4,11 +4,8 @@ use Rattle.tidying.proofs.StaleLaws.{all-passed}
 use native.Mathlib.Omega.{arith}
 use Rattle.tidying.proofs.tidy.ready.Goals as goal
 
-pub overflow_add-wide : goal.overflow_add-wide
-overflow_add-wide c =
-    let p = c in
-    let q = p in
-    omega (arith, p.count-count.ensures, count-few q.args.moved.now)
+pub overflow_add-changes_used : goal.overflow_add-changes_used
+overflow_add-changes_used c = omega (arith, c.count-count.ensures, count-few c.args.moved.now)
 
 pub returns-then-count-eq0 : goal.returns-then-count-eq0
 returns-then-count-eq0 c = search none-moved
@@ -19,11 +16,11 @@ stale-requires c = search datable-now
 pub returns-then-stale : goal.returns-then-stale
 returns-then-stale c = search is-stale
 
-pub returns-then-stamp-ge-MAX_RECORDS : goal.returns-then-stamp-ge-MAX_RECORDS
-returns-then-stamp-ge-MAX_RECORDS c = search records-full
+pub returns-then-c-ge-MAX_RECORDS : goal.returns-then-c-ge-MAX_RECORDS
+returns-then-c-ge-MAX_RECORDS c = search records-full
 
-pub returns-then-wide-count-gt2048 : goal.returns-then-wide-count-gt2048
-returns-then-wide-count-gt2048 c = search changes-full
+pub returns-then-changes_used-count : goal.returns-then-changes_used-count
+returns-then-changes_used-count c = search changes-full
 
 pub returns-then-slots_used-ge-MAX_SLOTS : goal.returns-then-slots_used-ge-MAX_SLOTS
 returns-then-slots_used-ge-MAX_SLOTS c = search slots-full

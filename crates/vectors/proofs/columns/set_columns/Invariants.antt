@@ -1,10 +1,8 @@
 -- `vectors::columns::set_columns` meets its contract. The invariant: the rows of the words before i are set.
-use mathlib.Core.Path.{◌≡◌}
 use Prim.Native.Nat.{◌/◌, ◌%◌}
-use lib.ListN.{length}
 use Rattle.bits.specs.Column.{column_bit}
 use Rattle.bits.proofs.ColumnLaws.{Grown}
 use Rattle.vectors.proofs.columns.set_columns.Given as goal
 
 abbrev pub invariant-loop-i : goal.invariant-loop-i
-invariant-loop-i l = Grown (λ q. q % 2048 / 64) (column_bit l.col) l.initial.words l.words l.i × (length l.own ≡ 256)
+invariant-loop-i l = Grown (λ q. q % 2048 / 64) (column_bit l.col) l.initial.words l.words l.i

@@ -17,7 +17,8 @@ use Rattle.bits.proofs.OrLaws.{or-all}
 use Rattle.vectors.proofs.words.zero_from.Goals as goal
 
 -- the first n words from `from` on
-front : (ws : List ℕ) (from n : ℕ) → n ≤ length (drop from ws) → fold bit_or 0 (take n (drop from ws)) ≡ or_below (λ k. get_or ws (from + k) 0) n
+front : (ws : List ℕ) (from n : ℕ) → n ≤ length (drop from ws)
+    → fold bit_or 0 (take n (drop from ws)) ≡ or_below (λ k. get_or ws (from + k) 0) n
 unfolding or_below
 front ws from zero h = refl
 front ws from (suc n) h =
