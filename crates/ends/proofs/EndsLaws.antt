@@ -1,28 +1,14 @@
 -- Writes and reads, one after another.
 use mathlib.Core.Path.{◌≡◌, refl, sym, ap, ap₂, ◌∙◌}
-use mathlib.Core.Bool.{Bool, true, and-eq-true_iff}
+use mathlib.Core.Bool.{Bool, true, false, true≢false}
 use mathlib.Core.List.{List, [], ◌++◌, append_assoc, append-nil}
-use Prim.Native.Nat.{ℕ, ◌+◌, ◌-◌, ◌<◌, ◌≤◌}
-use native.Mathlib.Omega.{arith}
-use borrow.Author.Tests.{ltb-true, eqb-true}
-use lib.Dec.{eqb, ltb}
-use lib.ListN.{length, take, drop, length-take, length-drop, take-append-drop, drop_of_length-le}
-use lib.Seq.{take-take, take-add}
+use Prim.Native.Nat.{ℕ, ◌-◌}
+use lib.ListN.{length, take, drop, take-append-drop}
+use Rattle.std.proofs.lemmas.List.{nil_from_length, take_rest}
 use Rattle.ends.specs.declared.watch.Watch.{Watch}
 use Rattle.ends.specs.Watch.{watched}
-use Rattle.ends.specs.Ends.{Put, Taken, goes_on}
+use Rattle.ends.specs.Ends.{Put, Taken}
 use Rattle.ends.proofs.WatchLaws.{watched-append}
-
--- ---- what goes on has turns left
-
-module _ (on : Bool) (turns : ℕ) (r : Bool) (e : r ≡ goes_on on turns) where
-  pub turns-left : r ≡ true → 0 < turns
-  unfolding goes_on
-  turns-left t = ltb-true 0 turns ((and-eq-true_iff on (ltb 0 turns)).0 (sym e ∙ t)).1
-
-  pub goes_first : r ≡ true → on ≡ true
-  unfolding goes_on
-  goes_first t = ((and-eq-true_iff on (ltb 0 turns)).0 (sym e ∙ t)).0
 
 -- ---- some bytes taken, then more
 
@@ -49,46 +35,35 @@ taken-less h a =
 
 -- ---- the head of the loop that writes
 
--- the system has taken the first `at` of n bytes
-pub record Putting (out : List ℕ) (n : ℕ) (w₀ w : Watch) (at turns : ℕ) (on : Bool) : Type 0 where
-  pub within : at ≤ n
-  pub room : n ≤ length out
-  pub watch-is : w ≡ watched w₀ (take at out)
-  pub left : on ≡ true → 0 < turns
+-- the system has taken the bytes before the rest
+pub record Putting (bytes rest : List ℕ) (w₀ w : Watch) : Type 0 where
+  pub first : List ℕ
+  pub bytes-are : bytes ≡ first ++ rest
+  pub watch-is : w ≡ watched w₀ first
 
-pub putting-none : (out : List ℕ) (n : ℕ) (w : Watch) (turns : ℕ) (on : Bool) → n ≤ length out → 0 < turns → Putting out n w w 0 turns on
+pub putting-none : (bytes : List ℕ) (w : Watch) → Putting bytes bytes w w
 unfolding watched
-putting-none out n w turns on h l = record { within = omega arith; room = h; watch-is = refl; left = λ t. l }
+putting-none bytes w = record { first = []; bytes-are = refl; watch-is = refl }
 
-module _ {out : List ℕ} {n : ℕ} {w₀ w : Watch} {at turns : ℕ} {on : Bool} (g : Putting out n w₀ w at turns on) where
-  part_length : length (take (n - at) (drop at out)) ≡ n - at
-  part_length = omega (arith, g.within, g.room, length-take (n - at) (drop at out), length-drop at out)
-
-  pub putting-room : (k : ℕ) (w' : Watch) → Put (take (n - at) (drop at out)) w k w' → at + k ≤ n
-  putting-room k w' p = omega (arith, g.within, p.within, part_length)
-
-  pub putting-more : (k turns' : ℕ) (w' : Watch) (b on' : Bool) → Put (take (n - at) (drop at out)) w k w' → on' ≡ goes_on b turns'
-      → Putting out n w₀ w' (at + k) turns' on'
-  putting-more k turns' w' b on' p e =
+module _ {bytes rest : List ℕ} {w₀ w : Watch} (g : Putting bytes rest w₀ w) where
+  pub putting-more : (n : ℕ) (w' : Watch) → Put rest w n w' → Putting bytes (drop n rest) w₀ w'
+  putting-more n w' p =
       record {
-        within = putting-room k w' p;
-        room = g.room;
+        first = g.first ++ take n rest;
+        bytes-are =
+            g.bytes-are ∙ ap (λ (l : List ℕ). g.first ++ l) (sym (take-append-drop n rest))
+            ∙ sym (append_assoc g.first (take n rest) (drop n rest));
         watch-is =
-            p.watch-is
-            ∙ ap (watched w) (take-take k (n - at) (drop at out) (omega (arith, p.within, part_length)))
-            ∙ ap (λ (v : Watch). watched v (take k (drop at out))) g.watch-is
-            ∙ sym (watched-append w₀ (take at out) (take k (drop at out)))
-            ∙ ap (watched w₀) (sym (take-add at k out));
-        left = turns-left b turns' on' e;
+            p.watch-is ∙ ap (λ (v : Watch). watched v (take n rest)) g.watch-is ∙ sym (watched-append w₀ g.first (take n rest));
       }
 
-  pub putting-end : Taken (take n out) w₀ w (eqb at n)
-  putting-end =
-      record {
-        first = take at out;
-        rest = drop at (take n out);
-        bytes-are = sym (take-append-drop at (take n out))
-            ∙ ap (λ (l : List ℕ). l ++ drop at (take n out)) (take-take at n out g.within);
-        watch-is = g.watch-is;
-        all_first = λ t. drop_of_length-le (take n out) {i = at} (omega (arith, eqb-true at n t, length-take n out));
-      }
+  pub putting-part : (n : ℕ) (w' : Watch) → Put rest w n w' → Putting bytes (take (length rest - n) (drop n rest)) w₀ w'
+  putting-part n w' p = rw (take_rest rest n) (putting-more n w' p)
+
+  pub putting-all : length rest ≡ 0 → Taken bytes w₀ w true
+  putting-all e =
+      record { first = g.first; rest = rest; bytes-are = g.bytes-are; watch-is = g.watch-is; all_first = λ t. nil_from_length rest e }
+
+  pub putting-failed : Taken bytes w₀ w false
+  putting-failed =
+      record { first = g.first; rest = rest; bytes-are = g.bytes-are; watch-is = g.watch-is; all_first = λ t. absurd (true≢false (sym t)) }

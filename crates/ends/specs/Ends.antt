@@ -1,5 +1,5 @@
 -- What the code promises that reads and writes: which bytes were handed over, and which were given.
-use Rattle.std.specs.Prelude.{◌≡◌, Bool, true, ◌&&◌, List, [], ◌++◌, ℕ, ◌≤◌, ltb, length, take}
+use Rattle.std.specs.Prelude.{◌≡◌, Bool, true, List, [], ◌++◌, ℕ, ◌≤◌, length, take}
 use Rattle.ends.specs.declared.watch.Watch.{Watch}
 use Rattle.ends.specs.declared.Told.{Told}
 use Rattle.ends.specs.Watch.{watched}
@@ -27,7 +27,3 @@ pub record Got (input : List ℕ) (w : Watch) (n : ℕ) (w' : Watch) : Type 0 wh
   pub within : n ≤ length input
   pub counted : n ≡ length (take n input)
   pub watch-is : w' ≡ watched w (take n input)
-
--- what is tried goes on while turns are left
-unfoldable pub goes_on : Bool → ℕ → Bool
-goes_on on turns = on && ltb 0 turns

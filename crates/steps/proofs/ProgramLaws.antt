@@ -1,12 +1,10 @@
 -- Chunk after chunk, from the first byte to the end of the input.
 use mathlib.Core.Path.{◌≡◌, refl, sym, ap, ap₂, subst, ◌∙◌}
-use mathlib.Core.Bool.{Bool, true, false, ◌&&◌, and-eq-true_iff, true≢false}
+use mathlib.Core.Bool.{Bool, true, false, true≢false}
 use mathlib.Core.List.{List, [], ◌∷◌, ◌++◌, map, append_assoc}
 use mathlib.Core.Logic.{◌⊎◌, inl, inr}
 use Prim.Native.Nat.{ℕ, ◌<◌, ◌≤◌}
 use native.Mathlib.Omega.{arith}
-use borrow.Author.Tests.{ltb-true, ltb-false}
-use lib.Dec.{ltb}
 use lib.ListN.{length, take, replicate, length-take, drop_of_length-le}
 use lib.Seq.{take_all, take-take}
 use Rattle.bits.proofs.Cases.{bool_cases}
@@ -33,7 +31,7 @@ use Rattle.steps.proofs.DoesLaws.{does-none, does-more, does-failed, does-less, 
 
 -- what is done of a chunk when it goes on at `at`
 pub record Along (bytes : List ℕ) (d₀ : Desk) (pending₀ : List ℕ) (len₀ : ℕ) (told₀ : Told) (d : Desk) (pending : List ℕ)
-    (len filled at : ℕ) (told : Told) (well more : Bool) : Type 0 where
+    (len at : ℕ) (told : Told) (well : Bool) : Type 0 where
   pub first : List (List ℕ)
   pub lines_are : lines_left pending₀ len₀ bytes 0 ≡ first ++ lines_left pending len bytes at
   pub desk-is : d ≡ after_lines d₀ first
@@ -42,15 +40,12 @@ pub record Along (bytes : List ℕ) (d₀ : Desk) (pending₀ : List ℕ) (len�
   pub pending-is : pending_left pending₀ len₀ bytes 0 ≡ pending_left pending len bytes at
   pub pending-room : length pending ≡ length pending₀
   pub len-fits : len ≤ length pending
-  pub filled_none : filled ≡ 0
   pub within : at ≤ length bytes
-  pub test : more ≡ well && ltb at (length bytes)
 
-pub along-none : (bytes : List ℕ) (d : Desk) (pending : List ℕ) (len : ℕ) (told : Told) (more : Bool) → len ≤ length pending
-    → more ≡ true && ltb 0 (length bytes)
-    → Along bytes d pending len told d pending len 0 0 told true more
+pub along-none : (bytes : List ℕ) (d : Desk) (pending : List ℕ) (len : ℕ) (told : Told) → len ≤ length pending
+    → Along bytes d pending len told d pending len 0 told true
 unfolding after_lines answers_of watched
-along-none bytes d pending len told more l e =
+along-none bytes d pending len told l =
     record {
       first = [];
       lines_are = refl;
@@ -60,59 +55,41 @@ along-none bytes d pending len told more l e =
       pending-is = refl;
       pending-room = refl;
       len-fits = l;
-      filled_none = refl;
       within = omega arith;
-      test = e;
     }
 
-module _ {bytes : List ℕ} {d₀ : Desk} {pending₀ : List ℕ} {len₀ : ℕ} {told₀ : Told} {d : Desk} {pending : List ℕ} {len filled at : ℕ}
-    {told : Told} {well more : Bool}
-    (g : Along bytes d₀ pending₀ len₀ told₀ d pending len filled at told well more) where
-  pub along-well : more ≡ true → well ≡ true
-  along-well t = ((and-eq-true_iff well (ltb at (length bytes))).0 (sym g.test ∙ t)).0
-
-  pub along-left : more ≡ true → at < length bytes
-  along-left t = ltb-true at (length bytes) ((and-eq-true_iff well (ltb at (length bytes))).0 (sym g.test ∙ t)).1
-
-  module _ {out out' : List ℕ} {d' : Desk} {pending' : List ℕ} {len' filled' at' : ℕ}
-      (a : Answers bytes (spot d pending len out filled at) (spot d' pending' len' out' filled' at')) where
-    pub along-moves : more ≡ true → 10276 ≤ length out → at < at'
-    along-moves t l = a.moves (along-left t) (omega (arith, g.filled_none))
-
-    pub along-more : {told' : Told} {well' more' : Bool} → more ≡ true → Handed (take filled' out') told told' well'
-        → more' ≡ well' && ltb at' (length bytes)
-        → Along bytes d₀ pending₀ len₀ told₀ d' pending' len' 0 at' told' well' more'
-    unfolding after_lines
-    along-more {told'} {well'} {more'} t e q =
-        let new = a.comes.first in
-        let none : take filled out ≡ [] = ap (λ (k : ℕ). take k out) g.filled_none in
-        let said : take filled' out' ≡ answers_of d new = a.comes.answers-are ∙ ap (λ (l : List ℕ). l ++ answers_of d new) none in
-        let here : take filled' out' ≡ answers_of (after_lines d₀ g.first) new = said ∙ ap (λ (x : Desk). answers_of x new) g.desk-is in
-        record {
-          first = g.first ++ new;
-          lines_are = g.lines_are ∙ ap (λ (l : List (List ℕ)). g.first ++ l) a.comes.lines_are ∙ sym (append_assoc g.first new _);
-          desk-is = a.comes.desk-is ∙ ap (λ (x : Desk). after_lines x new) g.desk-is ∙ sym (after-append d₀ g.first new);
-          handed-is =
-              e.handed-is
-              ∙ ap₂ (λ (v : Watch) (bs : List ℕ). watched v bs) g.handed-is here
-              ∙ sym (watched-append told₀.handed (answers_of d₀ g.first) (answers_of (after_lines d₀ g.first) new))
-              ∙ ap (watched told₀.handed) (sym (answers-append d₀ g.first new));
-          took =
-              subst (λ (bs : List ℕ). Taken bs told₀.taken told'.taken well') (sym (answers-append d₀ g.first new))
-              (taken_more g.took (along-well t) (subst (λ (bs : List ℕ). Taken bs told.taken told'.taken well') here e.took));
-          pending-is = g.pending-is ∙ a.comes.pending-is;
-          pending-room = a.comes.pending-room ∙ g.pending-room;
-          len-fits = a.comes.fits.len-fits;
-          filled_none = refl;
-          within = a.comes.fits.within;
-          test = q;
-        }
+module _ {bytes : List ℕ} {d₀ : Desk} {pending₀ : List ℕ} {len₀ : ℕ} {told₀ : Told} {d : Desk} {pending : List ℕ} {len at : ℕ}
+    {told : Told} {well : Bool}
+    (g : Along bytes d₀ pending₀ len₀ told₀ d pending len at told well) where
+  pub along-more : {out out' : List ℕ} {d' : Desk} {pending' : List ℕ} {len' filled' at' : ℕ} {told' : Told} {well' : Bool} → well ≡ true
+      → Answers bytes (spot d pending len out 0 at) (spot d' pending' len' out' filled' at')
+      → Handed (take filled' out') told told' well'
+      → Along bytes d₀ pending₀ len₀ told₀ d' pending' len' at' told' well'
+  unfolding after_lines
+  along-more {out} {out'} {d'} {pending'} {len'} {filled'} {at'} {told'} {well'} w a e =
+      let new = a.comes.first in
+      let said : take filled' out' ≡ answers_of d new = a.comes.answers-are in
+      let here : take filled' out' ≡ answers_of (after_lines d₀ g.first) new = said ∙ ap (λ (x : Desk). answers_of x new) g.desk-is in
+      record {
+        first = g.first ++ new;
+        lines_are = g.lines_are ∙ ap (λ (l : List (List ℕ)). g.first ++ l) a.comes.lines_are ∙ sym (append_assoc g.first new _);
+        desk-is = a.comes.desk-is ∙ ap (λ (x : Desk). after_lines x new) g.desk-is ∙ sym (after-append d₀ g.first new);
+        handed-is =
+            e.handed-is
+            ∙ ap₂ (λ (v : Watch) (bs : List ℕ). watched v bs) g.handed-is here
+            ∙ sym (watched-append told₀.handed (answers_of d₀ g.first) (answers_of (after_lines d₀ g.first) new))
+            ∙ ap (watched told₀.handed) (sym (answers-append d₀ g.first new));
+        took =
+            subst (λ (bs : List ℕ). Taken bs told₀.taken told'.taken well') (sym (answers-append d₀ g.first new))
+            (taken_more g.took w (subst (λ (bs : List ℕ). Taken bs told.taken told'.taken well') here e.took));
+        pending-is = g.pending-is ∙ a.comes.pending-is;
+        pending-room = a.comes.pending-room ∙ g.pending-room;
+        len-fits = a.comes.fits.len-fits;
+        within = a.comes.fits.within;
+      }
 
   -- nothing is left at the end
-  module _ (t : more ≡ false) (w : well ≡ true) where
-    at-end : length bytes ≤ at
-    at-end = ltb-false at (length bytes) (ap (λ (b : Bool). b && ltb at (length bytes)) (sym w) ∙ sym g.test ∙ t)
-
+  module _ (at-end : length bytes ≤ at) where
     no_lines : lines_left pending len bytes at ≡ []
     unfolding cut
     no_lines = ap (λ (l : List ℕ). map (take (length pending)) (cut (take len pending) l)) (drop_of_length-le bytes at-end)
@@ -123,7 +100,7 @@ module _ {bytes : List ℕ} {d₀ : Desk} {pending₀ : List ℕ} {len₀ : ℕ}
         ap (λ (r : List ℕ). take (length pending) (pend (take len pending) r)) (drop_of_length-le bytes at-end)
         ∙ take_all (length pending) (take len pending) (omega (arith, g.len-fits, length-take len pending))
 
-  pub along-through : more ≡ false → Through bytes d₀ pending₀ len₀ told₀ d pending len told well
+  pub along-through : (well ≡ true → length bytes ≤ at) → Through bytes d₀ pending₀ len₀ told₀ d pending len told well
   along-through t =
       record {
         does =
@@ -134,9 +111,9 @@ module _ {bytes : List ℕ} {d₀ : Desk} {pending₀ : List ℕ} {len₀ : ℕ}
               desk-is = g.desk-is;
               handed-is = g.handed-is;
               took = g.took;
-              all_first = λ w. no_lines t w;
+              all_first = λ w. no_lines (t w);
             };
-        pending-is = λ w. sym (g.pending-is ∙ all-pending t w);
+        pending-is = λ w. sym (g.pending-is ∙ all-pending (t w));
         pending-room = g.pending-room;
         fits = omega (arith, g.len-fits, g.pending-room);
       }
@@ -198,16 +175,16 @@ module _ {d : Desk} {p : List ℕ} {len : ℕ} {h : Watch} {t : Told} where
         }
 
   -- reads that may go on have not come to the end
-  pub read-over : {d₁ : Desk} {p₁ : List ℕ} {len₁ : ℕ} {h₁ : Watch} {t₁ : Told} {well : Bool} (b : Bool)
-      → Read d p len h t d₁ p₁ len₁ h₁ t₁ well → Read d p len h t d₁ p₁ len₁ h₁ t₁ (well && b)
-  read-over {d₁} {p₁} {len₁} {h₁} {t₁} {well} b a =
+  pub read-over : {d₁ : Desk} {p₁ : List ℕ} {len₁ : ℕ} {h₁ : Watch} {t₁ : Told} {well : Bool} → Read d p len h t d₁ p₁ len₁ h₁ t₁ well
+      → Read d p len h t d₁ p₁ len₁ h₁ t₁ false
+  read-over a =
       record {
         bytes = a.bytes;
         heard-is = a.heard-is;
         through =
             record {
-              does = does-less (λ e. ((and-eq-true_iff well b).0 e).0) a.through.does;
-              pending-is = λ e. a.through.pending-is ((and-eq-true_iff well b).0 e).0;
+              does = does-less (λ e. absurd (true≢false (sym e))) a.through.does;
+              pending-is = λ e. absurd (true≢false (sym e));
               pending-room = a.through.pending-room;
               fits = a.through.fits;
             };
@@ -216,36 +193,43 @@ module _ {d : Desk} {p : List ℕ} {len : ℕ} {h : Watch} {t : Told} where
 -- ---- the end of the input
 
 module _ {d : Desk} {p : List ℕ} {len : ℕ} {t : Told} where
-  pub ends-none : (well : Bool) → well && ltb 0 len ≡ false → Ends d p len t well d t well
+  pub ends-none : len ≡ 0 → Ends d p len t true d t true
   unfolding last_line
-  ends-none well e =
+  ends-none z =
       record {
-        does =
-            λ w. let z : len ≡ 0 = omega (arith, ltb-false 0 len (ap (λ (b : Bool). b && ltb 0 len) (sym w) ∙ e)) in
-            subst (λ (k : ℕ). Does (last_line (take k p)) d t d t well) (sym z) (does-none d t well);
+        does = λ w. rw z (does-none d t true);
         desk-still = λ w. refl;
         told-still = λ w. refl;
         still-failed = λ w. w;
       }
 
-  pub ends-line : {d' : Desk} {p' : List ℕ} {len' : ℕ} {t' : Told} {well' : Bool} (well : Bool) → well && ltb 0 len ≡ true → len ≤ length p
-      → Through (10 ∷ []) d p len t d' p' len' t' well' → Ends d p len t well d' t' well'
+  pub ends-line : {d' : Desk} {p' : List ℕ} {len' : ℕ} {t' : Told} {well' : Bool} → 0 < len → len ≤ length p
+      → Through (10 ∷ []) d p len t d' p' len' t' well' → Ends d p len t true d' t' well'
   unfolding cut last_line
-  ends-line {d'} {p'} {len'} {t'} {well'} well e l a =
-      let w : well ≡ true = ((and-eq-true_iff well (ltb 0 len)).0 e).0 in
+  ends-line {d'} {p'} {len'} {t'} {well'} h l a =
       let one : take (length p) (take len p) ∷ [] ≡ last_line (take len p) =
       ap (λ (q : List ℕ). q ∷ []) (take_all (length p) (take len p) (omega (arith, l, length-take len p)))
-      ∙ sym (some (take len p) (omega (arith, l, length-take len p, ltb-true 0 len ((and-eq-true_iff well (ltb 0 len)).0 e).1))) in
+      ∙ sym (some (take len p) (omega (arith, h, l, length-take len p))) in
       record {
         does = λ v. subst (λ (ls : List (List ℕ)). Does ls d t d' t' well') one a.does;
-        desk-still = λ v. absurd (true≢false (sym w ∙ v));
-        told-still = λ v. absurd (true≢false (sym w ∙ v));
-        still-failed = λ v. absurd (true≢false (sym w ∙ v));
+        desk-still = λ v. absurd (true≢false v);
+        told-still = λ v. absurd (true≢false v);
+        still-failed = λ v. absurd (true≢false v);
       }
     where
       some : (q : List ℕ) → 0 < length q → last_line q ≡ q ∷ []
       some [] h = absurd (omega arith)
       some (b ∷ q) h = refl
+
+  -- where something has failed, nothing more is done
+  pub ends-failed : Ends d p len t false d t false
+  ends-failed =
+      record {
+        does = λ v. absurd (true≢false (sym v));
+        desk-still = λ w. refl;
+        told-still = λ w. refl;
+        still-failed = λ w. refl;
+      }
 
 -- ---- the program
 

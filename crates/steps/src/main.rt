@@ -3,7 +3,7 @@
 
 mod chunk;
 
-ghost use Rattle.std.specs.Prelude.{◌≡◌, true, false, ◌&&◌, ◌<◌, ◌≤◌, ltb, length, replicate};
+ghost use Rattle.std.specs.Prelude.{◌≡◌, true, ◌<◌, ◌≤◌, is_ok, length, replicate};
 ghost use Rattle.tables.specs.Cells.{tables};
 ghost use Rattle.tables.specs.Sessions.{freed};
 ghost use Rattle.ends.specs.Watch as watching;
@@ -11,18 +11,16 @@ ghost use Rattle.steps.specs.Desk.{desk};
 ghost use Rattle.steps.specs.Program.{Through, Read, Ends, Blank, Program};
 
 use chunk::State;
-use ends::{Told, Watch, Writer};
+use ends::{Stopped, Told, Watch};
 use lines::Sessions;
 use std::io::{Stderr, Stdin, Stdout};
 
-// What stands between two reads: how many bytes are pending of the next line, the sessions, whether the input goes on, whether no read and
-// no write has failed, and the watches on the bytes read and on those written.
+// What stands between two reads: how many bytes are pending of the next line, the sessions, and the watches on the bytes read and on those
+// written.
 #[derive(Clone, Copy)]
 struct Stand {
     pending: usize,
     sessions: Sessions,
-    more: bool,
-    well: bool,
     heard: Watch,
     told: Told,
 }
@@ -30,31 +28,19 @@ struct Stand {
 // Before the first line.
 fn started(heard_at: usize, told_at: usize) -> Stand
     ensures { (result.pending ≡ 0) × (result.sessions.at ≡ replicate 16 freed)
-        × (result.well ≡ true)
         × (result.heard ≡ watching.fresh heard_at) × (result.told.handed ≡ watching.fresh told_at)
         × (result.told.taken ≡ watching.fresh told_at) }
 {
-    let all = lines::all_free();
-    let watch = ends::fresh(told_at);
-    let told = Told {
-        handed: watch,
-        taken: watch,
-    };
+    let sessions = lines::all_free();
     Stand {
         pending: 0,
-        sessions: all,
-        more: true,
-        well: true,
-        heard: ends::fresh(heard_at),
-        told: told,
+        sessions,
+        heard: Watch::fresh(heard_at),
+        told: Told {
+            handed: Watch::fresh(told_at),
+            taken: Watch::fresh(told_at),
+        },
     }
-}
-
-// Whether a chunk of `n` bytes goes on at `at`, as long as all goes well.
-fn goes_on(well: bool, at: usize, n: usize) -> bool
-    ensures { result ≡ well && ltb at n }
-{
-    well & (at < n)
 }
 
 // The lines of a chunk are answered, and the answers written; after a write that failed, no line more.
@@ -72,111 +58,35 @@ fn whole(
     pending: &mut [u8],
     out: &mut [u8],
     bytes: &[u8],
-    before: Stand,
-) -> Stand
+    stand: &mut Stand,
+) -> Result<(), Stopped>
     requires { (4096 ≤ length column.old) × (10276 ≤ length out.old)
-        × (before.pending ≤ length pending.old)
-        × (before.well ≡ true) }
+        × (stand.old.pending ≤ length pending.old) }
     ensures through { Through bytes.now
         (desk (tables clock.old slots.old words.old heads.old log.old
-        changes.old before.sessions.at) scratch.old) pending.old before.pending before.told
+        changes.old stand.old.sessions.at) scratch.old) pending.old stand.old.pending stand.old.told
         (desk (tables clock.new slots.new words.new heads.new log.new
-        changes.new result.sessions.at) scratch.new) pending.new result.pending result.told result.well }
-    ensures heard_value { (result.heard ≡ before.heard) × (result.more ≡ result.well) }
+        changes.new stand.new.sessions.at) scratch.new) pending.new stand.new.pending stand.new.told
+        (is_ok result) }
+    ensures heard_value { stand.new.heard ≡ stand.old.heard }
 {
-    let all = before.sessions;
-    let told = before.told;
-    let heard = before.heard;
-    let mut state = State {
-        pending: before.pending,
-        filled: 0,
-        next: 0,
-        sessions: all,
-    };
-    let mut writer = Writer {
-        well: true,
-        told: told,
-    };
-    let mut more = goes_on(true, 0, bytes.len());
-    while more {
+    let mut next: usize = 0;
+    while next < bytes.len() {
+        let before = State {
+            pending: stand.pending,
+            filled: 0,
+            next,
+            sessions: stand.sessions,
+        };
         let after = chunk::answer(
-            clock, slots, words, heads, log, changes, scratch, column, pending, out, bytes, state,
+            clock, slots, words, heads, log, changes, scratch, column, pending, out, bytes, before,
         );
-        let wrote = ends::write(stdout, stderr, out, after.filled, writer);
-        writer = wrote;
-        state = after;
-        state.filled = 0;
-        more = goes_on(writer.well, state.next, bytes.len());
+        stand.pending = after.pending;
+        stand.sessions = after.sessions;
+        next = after.next;
+        ends::write(stdout, stderr, &out[..after.filled], &mut stand.told)?;
     }
-    let left = state.sessions;
-    let seen = writer.told;
-    Stand {
-        pending: state.pending,
-        sessions: left,
-        more: writer.well,
-        well: writer.well,
-        heard: heard,
-        told: seen,
-    }
-}
-
-// A read, and what it gave answered. Where it gave nothing the input ends, and where it failed all ends.
-fn turn(
-    stdin: Stdin,
-    stdout: Stdout,
-    stderr: Stderr,
-    clock: &mut [u32],
-    slots: &mut [u32],
-    words: &mut [u64],
-    heads: &mut [u32],
-    log: &mut [u32],
-    changes: &mut [u32],
-    scratch: &mut [u64],
-    column: &mut [u8],
-    pending: &mut [u8],
-    out: &mut [u8],
-    input: &mut [u8],
-    before: Stand,
-) -> Stand
-    requires { (4096 ≤ length column.old) × (10276 ≤ length out.old)
-        × (before.pending ≤ length pending.old)
-        × (before.well ≡ true) }
-    ensures read { Read
-        (desk (tables clock.old slots.old words.old heads.old log.old
-        changes.old before.sessions.at) scratch.old) pending.old before.pending
-        before.heard before.told
-        (desk (tables clock.new slots.new words.new heads.new log.new
-        changes.new result.sessions.at) scratch.new)
-        pending.new result.pending result.heard result.told result.well }
-    ensures well_value { result.more ≡ true → result.well ≡ true }
-{
-    let heard = before.heard;
-    let mut stand = before;
-    let got = ends::read(stdin, stderr, input, heard);
-    let n = got.n;
-    let next = got.watch;
-    stand.heard = next;
-    if n == 0 {
-        stand.more = false;
-        stand.well = got.well;
-        return stand;
-    }
-    whole(
-        stdout,
-        stderr,
-        clock,
-        slots,
-        words,
-        heads,
-        log,
-        changes,
-        scratch,
-        column,
-        pending,
-        out,
-        &input[..n],
-        stand,
-    )
+    Ok(())
 }
 
 // Reads and answers until the input ends, or something fails. After 9,223,372,036,854,775,807 reads it has failed too.
@@ -195,36 +105,44 @@ fn run(
     pending: &mut [u8],
     out: &mut [u8],
     input: &mut [u8],
-    before: Stand,
-) -> Stand
+    stand: &mut Stand,
+) -> Result<(), Stopped>
     requires { (4096 ≤ length column.old) × (10276 ≤ length out.old)
-        × (before.pending ≤ length pending.old)
-        × (before.well ≡ true) }
+        × (stand.old.pending ≤ length pending.old) }
     ensures { Read
         (desk (tables clock.old slots.old words.old heads.old log.old
-        changes.old before.sessions.at) scratch.old) pending.old before.pending
-        before.heard before.told
+        changes.old stand.old.sessions.at) scratch.old) pending.old stand.old.pending
+        stand.old.heard stand.old.told
         (desk (tables clock.new slots.new words.new heads.new log.new
-        changes.new result.sessions.at) scratch.new)
-        pending.new result.pending result.heard result.told result.well }
+        changes.new stand.new.sessions.at) scratch.new)
+        pending.new stand.new.pending stand.new.heard stand.new.told (is_ok result) }
 {
-    let mut stand = before;
-    let mut turns: u64 = 9223372036854775807;
-    let mut more = true;
-    while more {
-        let after = turn(
-            stdin, stdout, stderr, clock, slots, words, heads, log, changes, scratch, column,
-            pending, out, input, stand,
-        );
-        stand = after;
-        turns = turns - 1;
-        more = ends::goes(stand.more, turns);
+    for _ in 0..ends::TURNS {
+        let n = ends::read(stdin, stderr, input, &mut stand.heard)?;
+        if n == 0 {
+            return Ok(());
+        }
+        whole(
+            stdout,
+            stderr,
+            clock,
+            slots,
+            words,
+            heads,
+            log,
+            changes,
+            scratch,
+            column,
+            pending,
+            out,
+            &input[..n],
+            stand,
+        )?;
     }
-    stand.well = stand.well & !stand.more;
-    stand
+    Err(Stopped)
 }
 
-// At the end of the input a last line without a newline is answered; where something has failed, nothing more is done.
+// At the end of the input a last line without a newline is answered.
 fn finish(
     stdout: Stdout,
     stderr: Stderr,
@@ -238,27 +156,29 @@ fn finish(
     column: &mut [u8],
     pending: &mut [u8],
     out: &mut [u8],
-    before: Stand,
-) -> Stand
-    requires { (4096 ≤ length column.old) × (10276 ≤ length out.old) × (before.pending ≤ length pending.old) }
+    stand: &mut Stand,
+) -> Result<(), Stopped>
+    requires { (4096 ≤ length column.old) × (10276 ≤ length out.old)
+        × (stand.old.pending ≤ length pending.old) }
     ensures ends { Ends
         (desk (tables clock.old slots.old words.old heads.old log.old
-        changes.old before.sessions.at) scratch.old) pending.old before.pending
-        before.told before.well
+        changes.old stand.old.sessions.at) scratch.old) pending.old stand.old.pending
+        stand.old.told true
         (desk (tables clock.new slots.new words.new heads.new log.new
-        changes.new result.sessions.at) scratch.new) result.told result.well }
-    ensures heard_value { result.heard ≡ before.heard }
+        changes.new stand.new.sessions.at) scratch.new) stand.new.told (is_ok result) }
+    ensures heard_value { stand.new.heard ≡ stand.old.heard }
 {
-    if !goes_on(before.well, 0, before.pending) {
-        return before;
+    if stand.pending == 0 {
+        return Ok(());
     }
     whole(
         stdout, stderr, clock, slots, words, heads, log, changes, scratch, column, pending, out,
-        b"\n", before,
+        b"\n", stand,
     )
 }
 
-// The program on lent tables, all zeros, and buffers, with a watch on a byte of its input and one on a byte of its output.
+// The program on lent tables, all zeros, and buffers, with a watch on a byte of its input and one on a byte of its output: what stands at
+// its end, and whether nothing failed.
 fn program(
     stdin: Stdin,
     stdout: Stdout,
@@ -276,22 +196,28 @@ fn program(
     input: &mut [u8],
     heard_at: usize,
     told_at: usize,
-) -> Stand
+) -> (Stand, Result<(), Stopped>)
     requires blank { Blank clock.old slots.old words.old heads.old log.old changes.old scratch.old }
     requires in_bounds { (4096 ≤ length column.old) × (10276 ≤ length out.old) × (8192 < length pending.old) }
     ensures { Program heard_at told_at
         (desk (tables clock.new slots.new words.new heads.new log.new
-        changes.new result.sessions.at) scratch.new) result.heard result.told result.well }
+        changes.new result.0.sessions.at) scratch.new) result.0.heard result.0.told (is_ok result.1) }
 {
-    let stand = started(heard_at, told_at);
-    let after = run(
+    let mut stand = started(heard_at, told_at);
+    let gone = run(
         stdin, stdout, stderr, clock, slots, words, heads, log, changes, scratch, column, pending,
-        out, input, stand,
+        out, input, &mut stand,
     );
-    finish(
-        stdout, stderr, clock, slots, words, heads, log, changes, scratch, column, pending, out,
-        after,
-    )
+    match gone {
+        Ok(()) => {
+            let done = finish(
+                stdout, stderr, clock, slots, words, heads, log, changes, scratch, column, pending,
+                out, &mut stand,
+            );
+            (stand, done)
+        }
+        Err(stopped) => (stand, Err(stopped)),
+    }
 }
 
 // 65,536 zeros: what a read fills, and what answers are gathered in before they are written.
@@ -301,7 +227,7 @@ fn large_buffer() -> [u8; 65536]
     [0; 65536]
 }
 
-// The program starts from zeros. Which bytes are watched is all the same.
+// The program starts from zeros. Which bytes are watched is all the same, and what failed was told.
 fn main(rt: HostRuntime) {
     let mut clock = [0u32; 6];
     let mut slots = [0u32; 288];
@@ -314,7 +240,7 @@ fn main(rt: HostRuntime) {
     let mut pending = [0u8; 8193];
     let mut out = large_buffer();
     let mut input = large_buffer();
-    program(
+    let _ = program(
         rt.stdin(),
         rt.stdout(),
         rt.stderr(),

@@ -1,25 +1,28 @@
--- `put_all` meets its contract: at the loop's head, the system has taken the first `at` bytes.
-use native.Mathlib.Omega.{arith}
+-- `put_all` meets its contract: at the loop's head, the system has taken the bytes before the rest.
 use borrow.Author.Rules.{rules}
-use Rattle.ends.proofs.EndsLaws.{putting-none, putting-more, putting-room, putting-end}
+use Rattle.ends.proofs.EndsLaws.{putting-none, putting-more, putting-part, putting-all, putting-failed}
 use Rattle.ends.proofs.put_all.Goals as goal
+use Rattle.ends.proofs.put_all.Goals.{in-Ok, in-Err+else-not-again, else-loop-test, then-loop-test+else-is_empty+in-Ok-eq0}
 
-pub loop-on-init : goal.loop-on-init
-loop-on-init c = putting-none _ _ _ _ _ (search rules) (omega arith)
+pub loop-init : goal.loop-init
+loop-init c = putting-none _ _
 
-pub overflow_add-at : goal.overflow_add-at
-overflow_add-at c =
-    let g = c.loop-on.invariant in
-    omega (arith, putting-room g _ _ c.put-done.ensures, g.room)
+pub returns-then-is_empty : goal.returns-then-is_empty
+returns-then-is_empty c = putting-all c.loop.invariant (search rules)
 
-pub overflow_sub-turns : goal.overflow_sub-turns
-overflow_sub-turns c = omega (arith, c.loop-on.invariant.left c.loop-on-test.true)
+pub returns-then-not-again : goal.returns-then-not-again
+returns-then-not-again c = putting-failed (putting-more c.loop.invariant 0 _ c.in-Err.ensures)
 
-pub loop-on-smaller : goal.loop-on-smaller
-loop-on-smaller c = omega (arith, c.loop-on.invariant.left c.loop-on-test.true)
-
-pub loop-on-preserved : goal.loop-on-preserved
-loop-on-preserved c = putting-more c.loop-on.invariant _ _ _ _ _ c.put-done.ensures c.goes-on.ensures
+pub loop-preserved : goal.loop-preserved
+loop-preserved c =
+    let g = c.loop.invariant in elim c.match-put.branch [
+      | in-Ok w ↦ rw w.rest-is (putting-part g _ _ w.in-Ok.ensures)
+      | in-Err+else-not-again w ↦ rw w.rest-is (putting-more g 0 _ w.in-Err.ensures)
+    ]
 
 pub returns : goal.returns
-returns c = search putting-end
+returns c =
+    let g = c.loop.invariant in elim c.loop-test.branch [
+      | else-loop-test w ↦ rw w.watch-is (putting-failed g)
+      | then-loop-test+else-is_empty+in-Ok-eq0 w ↦ rw w.watch-is (putting-failed (putting-more g _ _ w.in-Ok-eq0.ensures))
+    ]

@@ -1,11 +1,12 @@
--- `read` meets its contract: where it is made again, turns are left.
-use Rattle.std.proofs.Common.{◌∙◌}
-use Rattle.ends.proofs.EndsLaws.{turns-left}
+-- `read` meets its contract: a read that failed gave no byte.
+use mathlib.Core.Path.{refl}
+use native.Mathlib.Omega.{arith}
+use Rattle.std.proofs.lemmas.Result.{err_from_is_err_and}
+use Rattle.ends.specs.Watch.{watched}
 use Rattle.ends.proofs.read.Goals as goal
 
-pub loop-on-preserved : goal.loop-on-preserved
-loop-on-preserved c = record {
-  kept = c.read-got-in-loop-on.auto.buf ∙ c.loop-on.invariant.kept;
-  within = c.read-got-in-loop-on.ensures.bound;
-  left = turns-left _ _ _ c.goes-on.ensures;
-}
+pub returns-in_err-n : goal.returns-in_err-n
+unfolding watched
+returns-in_err-n c =
+    let p = err_from_is_err_and c.from_residual.result c.from_residual.ensures.1 in
+    rw p.1 record { within = omega arith; counted = refl; watch-is = refl }

@@ -1,7 +1,7 @@
--- `watch::fresh` meets its contract.
+-- `Watch::fresh` meets its contract.
 use mathlib.Core.Path.{refl}
 use Rattle.ends.specs.Watch.{fresh}
-use Rattle.ends.proofs.watch.fresh.Goals as goal
+use Rattle.ends.proofs.watch.Watch.fresh.Goals as goal
 
 pub returns : goal.returns
 unfolding fresh
