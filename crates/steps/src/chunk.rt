@@ -2,20 +2,18 @@
 ghost use Rattle.std.specs.Prelude.{◌≡◌, ◌&&◌, ◌-◌, ◌<◌, ◌≤◌, leb, ltb, length, IfSome};
 ghost use Rattle.tables.specs.Cells.{tables};
 ghost use Rattle.text.specs.Feed.{whole_line};
-ghost use Rattle.lines.specs.Left.{leaves};
 ghost use Rattle.steps.specs.Desk.{desk};
 ghost use Rattle.steps.specs.Answers.{Replied, spot, Answers};
 
-use lines::{Lined, Sessions};
+use tables::Session;
 
 // What stands between two lines: how many bytes are pending of the next one, how many bytes of answers are not yet written,
-// where the chunk goes on, and the sessions.
+// and where the chunk goes on.
 #[derive(Clone, Copy)]
 pub struct State {
     pub pending: usize,
     pub filled: usize,
     pub next: usize,
-    pub sessions: Sessions,
 }
 
 // Whether the chunk of `n` bytes goes on at `at`, and `room` bytes of which `filled` are taken have room for any answer.
@@ -26,7 +24,7 @@ fn goes_on(at: usize, n: usize, filled: usize, room: usize) -> bool
     (at < n) & (10276 <= room - filled)
 }
 
-// A line that is whole is answered, if there is one: the first so many bytes pending; what is left of the sessions is handed back.
+// A line that is whole is answered, if there is one: the first so many bytes pending; how many bytes its answer has.
 fn answered(
     clock: &mut [u32],
     slots: &mut [u32],
@@ -34,23 +32,22 @@ fn answered(
     heads: &mut [u32],
     log: &mut [u32],
     changes: &mut [u32],
+    sessions: &mut [Session],
     scratch: &mut [u64],
     column: &mut [u8],
     pending: &[u8],
     out: &mut [u8],
-    all: Sessions,
     whole: Option<usize>,
-) -> Lined
+) -> usize
     requires { (4096 ≤ length column.old) × (10276 ≤ length out.old) × IfSome whole (λ n. n ≤ length pending.now) }
-    ensures replied { Replied
+    ensures { Replied
         (desk (tables clock.old slots.old words.old heads.old log.old
-        changes.old all.at) scratch.old) (whole_line whole pending.now) out.old
+        changes.old sessions.old) scratch.old) (whole_line whole pending.now) out.old
         (desk (tables clock.new slots.new words.new heads.new log.new
-        changes.new (leaves all.at result.left)) scratch.new) out.new result.len }
-    ensures place_bound { result.left.place < 16 }
+        changes.new sessions.new) scratch.new) out.new result }
 {
     let Some(n) = whole else {
-        return lines::nothing();
+        return 0;
     };
     lines::line(
         clock,
@@ -59,7 +56,7 @@ fn answered(
         heads,
         log,
         changes,
-        all,
+        sessions,
         scratch,
         column,
         &pending[..n],
@@ -76,6 +73,7 @@ pub fn answer(
     heads: &mut [u32],
     log: &mut [u32],
     changes: &mut [u32],
+    sessions: &mut [Session],
     scratch: &mut [u64],
     column: &mut [u8],
     pending: &mut [u8],
@@ -87,50 +85,39 @@ pub fn answer(
         × (before.pending ≤ length pending.old)
         × (before.filled ≤ length out.old) × (before.next ≤ length bytes.now) }
     ensures { Answers bytes.now (spot (desk (tables clock.old slots.old
-        words.old heads.old log.old changes.old before.sessions.at)
+        words.old heads.old log.old changes.old sessions.old)
         scratch.old) pending.old before.pending out.old before.filled
         before.next) (spot (desk (tables clock.new slots.new words.new heads.new
-        log.new changes.new result.sessions.at) scratch.new) pending.new result.pending
+        log.new changes.new sessions.new) scratch.new) pending.new result.pending
         out.new result.filled result.next) }
 {
-    let mut all = before.sessions;
     let mut len = before.pending;
     let mut filled = before.filled;
     let mut at = before.next;
     let mut more = goes_on(at, bytes.len(), filled, out.len());
     while more {
         let fed = text::feed_line(pending, len, bytes, at);
-        let done = answered(
+        filled += answered(
             clock,
             slots,
             words,
             heads,
             log,
             changes,
+            sessions,
             scratch,
             column,
             pending,
             &mut out[filled..],
-            all,
             fed.line,
         );
-        let left = done.left;
-        let i = left.place;
-        let session = left.session;
-        if left.anew {
-            all = lines::all_free();
-        } else if left.put {
-            all.at[i] = session;
-        }
-        filled = filled + done.len;
         len = fed.len;
         at = fed.next;
         more = goes_on(at, bytes.len(), filled, out.len());
     }
     State {
         pending: len,
-        filled: filled,
+        filled,
         next: at,
-        sessions: all,
     }
 }

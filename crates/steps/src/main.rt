@@ -12,29 +12,25 @@ ghost use Rattle.steps.specs.Program.{Through, Read, Ends, Blank, Program};
 
 use chunk::State;
 use ends::{Stopped, Told, Watch};
-use lines::Sessions;
 use std::io::{Stderr, Stdin, Stdout};
+use tables::Session;
 
-// What stands between two reads: how many bytes are pending of the next line, the sessions, and the watches on the bytes read and on those
-// written.
+// What stands between two reads: how many bytes are pending of the next line, and the watches on the bytes read and on those written.
 #[derive(Clone, Copy)]
 struct Stand {
     pending: usize,
-    sessions: Sessions,
     heard: Watch,
     told: Told,
 }
 
 // Before the first line.
 fn started(heard_at: usize, told_at: usize) -> Stand
-    ensures { (result.pending ≡ 0) × (result.sessions.at ≡ replicate 16 freed)
+    ensures { (result.pending ≡ 0)
         × (result.heard ≡ watching.fresh heard_at) × (result.told.handed ≡ watching.fresh told_at)
         × (result.told.taken ≡ watching.fresh told_at) }
 {
-    let sessions = lines::all_free();
     Stand {
         pending: 0,
-        sessions,
         heard: Watch::fresh(heard_at),
         told: Told {
             handed: Watch::fresh(told_at),
@@ -53,6 +49,7 @@ fn whole(
     heads: &mut [u32],
     log: &mut [u32],
     changes: &mut [u32],
+    sessions: &mut [Session],
     scratch: &mut [u64],
     column: &mut [u8],
     pending: &mut [u8],
@@ -64,9 +61,9 @@ fn whole(
         × (stand.old.pending ≤ length pending.old) }
     ensures through { Through bytes.now
         (desk (tables clock.old slots.old words.old heads.old log.old
-        changes.old stand.old.sessions.at) scratch.old) pending.old stand.old.pending stand.old.told
+        changes.old sessions.old) scratch.old) pending.old stand.old.pending stand.old.told
         (desk (tables clock.new slots.new words.new heads.new log.new
-        changes.new stand.new.sessions.at) scratch.new) pending.new stand.new.pending stand.new.told
+        changes.new sessions.new) scratch.new) pending.new stand.new.pending stand.new.told
         (is_ok result) }
     ensures heard_value { stand.new.heard ≡ stand.old.heard }
 {
@@ -76,13 +73,11 @@ fn whole(
             pending: stand.pending,
             filled: 0,
             next,
-            sessions: stand.sessions,
         };
         let after = chunk::answer(
-            clock, slots, words, heads, log, changes, scratch, column, pending, out, bytes, before,
+            clock, slots, words, heads, log, changes, sessions, scratch, column, pending, out, bytes, before,
         );
         stand.pending = after.pending;
-        stand.sessions = after.sessions;
         next = after.next;
         ends::write(stdout, stderr, &out[..after.filled], &mut stand.told)?;
     }
@@ -100,6 +95,7 @@ fn run(
     heads: &mut [u32],
     log: &mut [u32],
     changes: &mut [u32],
+    sessions: &mut [Session],
     scratch: &mut [u64],
     column: &mut [u8],
     pending: &mut [u8],
@@ -111,10 +107,10 @@ fn run(
         × (stand.old.pending ≤ length pending.old) }
     ensures { Read
         (desk (tables clock.old slots.old words.old heads.old log.old
-        changes.old stand.old.sessions.at) scratch.old) pending.old stand.old.pending
+        changes.old sessions.old) scratch.old) pending.old stand.old.pending
         stand.old.heard stand.old.told
         (desk (tables clock.new slots.new words.new heads.new log.new
-        changes.new stand.new.sessions.at) scratch.new)
+        changes.new sessions.new) scratch.new)
         pending.new stand.new.pending stand.new.heard stand.new.told (is_ok result) }
 {
     for _ in 0..ends::TURNS {
@@ -131,6 +127,7 @@ fn run(
             heads,
             log,
             changes,
+            sessions,
             scratch,
             column,
             pending,
@@ -152,6 +149,7 @@ fn finish(
     heads: &mut [u32],
     log: &mut [u32],
     changes: &mut [u32],
+    sessions: &mut [Session],
     scratch: &mut [u64],
     column: &mut [u8],
     pending: &mut [u8],
@@ -162,17 +160,17 @@ fn finish(
         × (stand.old.pending ≤ length pending.old) }
     ensures ends { Ends
         (desk (tables clock.old slots.old words.old heads.old log.old
-        changes.old stand.old.sessions.at) scratch.old) pending.old stand.old.pending
+        changes.old sessions.old) scratch.old) pending.old stand.old.pending
         stand.old.told true
         (desk (tables clock.new slots.new words.new heads.new log.new
-        changes.new stand.new.sessions.at) scratch.new) stand.new.told (is_ok result) }
+        changes.new sessions.new) scratch.new) stand.new.told (is_ok result) }
     ensures heard_value { stand.new.heard ≡ stand.old.heard }
 {
     if stand.pending == 0 {
         return Ok(());
     }
     whole(
-        stdout, stderr, clock, slots, words, heads, log, changes, scratch, column, pending, out,
+        stdout, stderr, clock, slots, words, heads, log, changes, sessions, scratch, column, pending, out,
         b"\n", stand,
     )
 }
@@ -189,6 +187,7 @@ fn program(
     heads: &mut [u32],
     log: &mut [u32],
     changes: &mut [u32],
+    sessions: &mut [Session],
     scratch: &mut [u64],
     column: &mut [u8],
     pending: &mut [u8],
@@ -198,20 +197,21 @@ fn program(
     told_at: usize,
 ) -> (Stand, Result<(), Stopped>)
     requires blank { Blank clock.old slots.old words.old heads.old log.old changes.old scratch.old }
+    requires free { sessions.old ≡ replicate 16 freed }
     requires in_bounds { (4096 ≤ length column.old) × (10276 ≤ length out.old) × (8192 < length pending.old) }
     ensures { Program heard_at told_at
         (desk (tables clock.new slots.new words.new heads.new log.new
-        changes.new result.0.sessions.at) scratch.new) result.0.heard result.0.told (is_ok result.1) }
+        changes.new sessions.new) scratch.new) result.0.heard result.0.told (is_ok result.1) }
 {
     let mut stand = started(heard_at, told_at);
     let gone = run(
-        stdin, stdout, stderr, clock, slots, words, heads, log, changes, scratch, column, pending,
+        stdin, stdout, stderr, clock, slots, words, heads, log, changes, sessions, scratch, column, pending,
         out, input, &mut stand,
     );
     match gone {
         Ok(()) => {
             let done = finish(
-                stdout, stderr, clock, slots, words, heads, log, changes, scratch, column, pending,
+                stdout, stderr, clock, slots, words, heads, log, changes, sessions, scratch, column, pending,
                 out, &mut stand,
             );
             (stand, done)
@@ -227,7 +227,7 @@ fn large_buffer() -> [u8; 65536]
     [0; 65536]
 }
 
-// The program starts from zeros. Which bytes are watched is all the same, and what failed was told.
+// The program starts from zeros and free sessions. Which bytes are watched is all the same, and what failed was told.
 fn main(rt: HostRuntime) {
     let mut clock = [0u32; 6];
     let mut slots = [0u32; 288];
@@ -235,6 +235,7 @@ fn main(rt: HostRuntime) {
     let mut heads = [0u32; 32];
     let mut log = [0u32; 2048];
     let mut changes = [0u32; 4096];
+    let mut sessions = [tables::free_session(); 16];
     let mut scratch = [0u64; 32];
     let mut column = [0u8; 4096];
     let mut pending = [0u8; 8193];
@@ -250,6 +251,7 @@ fn main(rt: HostRuntime) {
         &mut heads,
         &mut log,
         &mut changes,
+        &mut sessions,
         &mut scratch,
         &mut column,
         &mut pending,
