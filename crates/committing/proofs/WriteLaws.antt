@@ -6,7 +6,7 @@ use Prim.Native.Nat.{ℕ, suc, ◌+◌, ◌≤◌, ◌<◌}
 use native.Mathlib.Omega.{arith}
 use mir.Syntax.{w32}
 use mir.Val.{Fits}
-use lib.ListN.{length, get_or, set, length-append}
+use lib.ListN.{length, get_or, length-append}
 use Rattle.bits.specs.Tab.{tab}
 use Rattle.rules.specs.Lists.{inserts}
 use Rattle.rules.specs.Commit.{row_changes}
@@ -23,7 +23,6 @@ use Rattle.tables.specs.Stretch.{stretch}
 use Rattle.tables.proofs.Stores.{length-change}
 use Rattle.tables.proofs.Stretch.{tab-stretch, stretch-join}
 use Rattle.history.specs.declared.changes.Last.{Last}
-use Rattle.std.specs.Prelude.{Some, None}
 use Rattle.std.specs.Prelude as kit
 use Rattle.history.specs.Last.{set_of, last_set, last_of}
 use Rattle.history.specs.Read.{standing_of, read_cells, read_after}
