@@ -56,7 +56,8 @@ rows_alike C n f g [] fit h = refl
 rows_alike C n f g (alter r b ∷ es) fit h = rw (h r b fit.1, rows_alike C n f g es fit.2 h)
 rows_alike C n f g (add v ∷ es) fit h = rows_alike C n f g es fit.1 h
 
-inserts-alike : (C n : ℕ) (es : List Entry) (r : ℕ) → C ≤ 32 → EntriesFit C n es → insert_cells r (inserts es) ≡ insert_changes r (inserts es)
+inserts-alike : (C n : ℕ) (es : List Entry) (r : ℕ) → C ≤ 32 → EntriesFit C n es
+    → insert_cells r (inserts es) ≡ insert_changes r (inserts es)
 unfolding toggled
 inserts-alike C n [] r h fit = refl
 inserts-alike C n (alter q b ∷ es) r h fit = inserts-alike C n es r h fit.2
@@ -141,8 +142,9 @@ module _ (clock slots words heads log changes : List ℕ) where
         let y = session st n in
         list_empty y ∷ conflict st y ∷ rows_full st y ∷ records_full st ∷ changes_full st (length (rules.list_of y)) ∷ []
 
-    pub commit-refused : (why : Refusal) (d : Result Answer Refusal) → some (number_of why) ≡ opened_by clock slots words heads log changes x n
-        → d ≡ Err why → Serves lent lent [] x n (freeing d n) d (λ t. commit_of t n)
+    pub commit-refused : (why : Refusal) (d : Result Answer Refusal)
+        → some (number_of why) ≡ opened_by clock slots words heads log changes x n → d ≡ Err why
+        → Serves lent lent [] x n (freeing d n) d (λ t. commit_of t n)
     unfolding commit_of tests
     commit-refused why d q k =
         opened-refused clock slots words heads log changes [] x n (commit n) (wrote n) why (freeing d n) d (idle-freeing d n why k) left

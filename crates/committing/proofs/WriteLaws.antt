@@ -1,14 +1,12 @@
--- What an accepted commit writes, step by step: flip sets, the changes of the listed rows and of the inserts, the record.
+-- What an accepted commit writes, step by step: flip sets, the changes of the listed rows and of the inserts.
 use mathlib.Core.Path.{◌≡◌, refl, sym, ap, ap₂, ◌∙◌}
 use mathlib.Core.Option.{Option, some}
 use mathlib.Core.List.{List, [], ◌∷◌, ◌++◌}
-use Prim.Native.Nat.{ℕ, suc, ◌+◌, ◌-◌, ◌≤◌, ◌<◌}
+use Prim.Native.Nat.{ℕ, suc, ◌+◌, ◌≤◌, ◌<◌}
 use native.Mathlib.Omega.{arith}
-use borrow.Author.Tests.{lt-ltb, le-ltb}
 use mir.Syntax.{w32}
 use mir.Val.{Fits}
-use lib.ListN.{length, get_or, set, length-append}
-use Rattle.bits.specs.Bit.{flip_bit}
+use lib.ListN.{length, get_or, length-append}
 use Rattle.bits.specs.Tab.{tab}
 use Rattle.rules.specs.Lists.{inserts}
 use Rattle.rules.specs.Commit.{row_changes}
@@ -17,70 +15,38 @@ use Rattle.tables.specs.declared.session.Session.{Session}
 use Rattle.tables.specs.declared.clock.Clock.{Clock}
 use Rattle.tables.specs.declared.counts.Row.{Row}
 use Rattle.tables.specs.declared.counts.Value.{Value}
-use Rattle.tables.specs.Cells.{values_in, stamp_in, end_at}
-use Rattle.tables.specs.Clock.{clock_in, later}
-use Rattle.tables.specs.Stores.{put_record, put_change, put_moment, put_changes_used}
+use Rattle.tables.specs.Cells.{values_in, end_at}
+use Rattle.tables.specs.Clock.{clock_in}
+use Rattle.tables.specs.Stores.{put_change}
 use Rattle.tables.specs.Meaning.{change_at, target_of, entry_at, entries}
 use Rattle.tables.specs.Stretch.{stretch}
 use Rattle.tables.proofs.Stores.{length-change}
 use Rattle.tables.proofs.Stretch.{tab-stretch, stretch-join}
 use Rattle.history.specs.declared.changes.Last.{Last}
-use Rattle.std.specs.Prelude.{Some, None}
 use Rattle.std.specs.Prelude as kit
 use Rattle.history.specs.Last.{set_of, last_set, last_of}
-use Rattle.history.specs.Read.{standing_of, read_cells, read_after, Readable, ReadReady}
+use Rattle.history.specs.Read.{standing_of, read_cells, read_after}
 use Rattle.history.proofs.LastLaws.{set_of-last}
 use Rattle.history.proofs.ReadLaws.{read_is}
 use Rattle.history.proofs.Kept.{set-kept, read_kept}
-use Rattle.outcomes.specs.declared.answers.Answer.TheVariants.{At}
 use Rattle.outcomes.specs.Stores.{put_changes}
 use Rattle.committing.specs.Commit.{toggled_in, new_cells, insert_cells, RowReady, RowsReady, RowsStored, InsertsReady, InsertsStored}
-use Rattle.committing.specs.Commit.{Recorded}
 use Rattle.outcomes.proofs.StoreLaws.{changes-before, changes-snoc}
 use Rattle.outcomes.proofs.ListLaws.{inserts-new, inserts-row, rows_new, rows_row}
-
--- ---- a value toggled
-
-module _ (m : ℕ) (held : kit.Option Value) where
-  pub toggled-absent : held ≡ None → m ≡ toggled_in m (standing_of held)
-  unfolding toggled_in
-  toggled-absent e = rw e
-
-  module _ (v : Value) (e : held ≡ Some v) where
-    pub toggled-low : (r : ℕ) → v.0 < 32 → r ≡ flip_bit m v.0 → r ≡ toggled_in m (standing_of held)
-    unfolding toggled_in
-    toggled-low r l q = rw (e, lt-ltb v.0 32 l) q
-
-    pub toggled-high : 32 ≤ v.0 → m ≡ toggled_in m (standing_of held)
-    unfolding toggled_in
-    toggled-high l = rw (e, le-ltb v.0 32 l)
 
 -- ---- the new set of a row
 
 module _ (clock slots words heads log changes : List ℕ) (s : ℕ) (c : Clock) (k : c ≡ clock_in clock) where
-  pub new-readable : ReadReady slots words heads log changes (values_in clock) s → Readable slots words heads log c.values.0 s
-  unfolding clock_in
-  new-readable r = rw k r.readable
-
   pub new_is : (row to end : ℕ) (last : kit.Option Last) (held target : kit.Option Value) (set a r : ℕ) → end ≡ end_at log s
       → last ≡ last_of changes end row → standing_of held ≡ read_after slots words heads log c.values.0 s row last
-      → set ≡ set_of last → a ≡ toggled_in set (standing_of held) → standing_of target ≡ target_of to → r ≡ toggled_in a (standing_of target)
-      → r ≡ new_cells slots words heads log changes (values_in clock) s row (target_of to)
+      → set ≡ set_of last → a ≡ toggled_in set (standing_of held) → standing_of target ≡ target_of to
+      → r ≡ toggled_in a (standing_of target) → r ≡ new_cells slots words heads log changes (values_in clock) s row (target_of to)
   unfolding new_cells clock_in
   new_is row to end last held target set a r e l h w p q z =
       z ∙ ap₂ toggled_in (p ∙ ap₂ toggled_in
       (w ∙ ap set_of l ∙ set_of-last changes row end ∙ ap (λ (n : ℕ). last_set changes 0 n row) e)
       (read_is slots words heads log changes c.values.0 s row end last (standing_of held) e l h
       ∙ ap (λ (d : Clock). read_cells slots words heads log changes d.values.0 s row) k)) q
-
--- ---- the change of one row
-
-pub row_written : (clock slots words heads log changes changes' : List ℕ) (x : Session) (i p row set : ℕ) → row ≡ get_or x.at i 0
-    → set ≡ new_cells slots words heads log changes (values_in clock) x.start.0 row (target_of (get_or x.to i 0))
-    → changes' ≡ put_change changes p row set
-    → changes' ≡ put_change changes p (get_or x.at i 0) (new_cells slots words heads log changes (values_in clock) x.start.0
-    (get_or x.at i 0) (target_of (get_or x.to i 0)))
-row_written clock slots words heads log changes changes' x i p row set e q z = rw (z, q, e)
 
 -- ---- the table's length stays
 
@@ -110,7 +76,8 @@ module _ (clock slots words heads log changes : List ℕ) (x : Session) (from : 
     }
 
     -- the changes up to the start are still there
-    new-kept : i ≤ x.count → (row : ℕ) (b : Option ℕ) → new_cells slots words heads log changes' (values_in clock) x.start.0 row b ≡ sets row b
+    new-kept : i ≤ x.count → (row : ℕ) (b : Option ℕ)
+        → new_cells slots words heads log changes' (values_in clock) x.start.0 row b ≡ sets row b
     unfolding new_cells
     new-kept l row b =
         let cs = row_changes sets (tab (entry_at x) i) in
@@ -209,29 +176,3 @@ module _ (changes : List ℕ) (x : Session) (from rows : ℕ) where
 
     pub inserts-all : x.count ≤ i → i ≤ x.count → changes' ≡ put_changes changes from (insert_cells rows (inserts (entries x)))
     inserts-all l h = let z : i ≡ x.count = omega arith in (rw z at s).stored
-
--- ---- the record and the clock
-
-module _ (clock log : List ℕ) (c : Clock) (k : c ≡ clock_in clock) where
-  pub tick-low : stamp_in clock < 512 → c.stamp.0 < 4294967295
-  unfolding clock_in
-  tick-low h = rw k (omega arith)
-
-  pub record-first : (rows : Row) (next : Clock) → next ≡ later c rows → 0 < next.stamp.0
-  unfolding later
-  record-first rows next e = rw e (omega arith)
-
-  pub record-low : (rows : Row) (next : Clock) → stamp_in clock < 512 → next ≡ later c rows → next.stamp.0 ≤ 512
-  unfolding clock_in later
-  record-low rows next h e = rw (e, k) (omega arith)
-
-  pub recorded-is : (rows : Row) (end : ℕ) (next : Clock) (clock₁ clock' log' : List ℕ) → next ≡ later c rows
-      → log' ≡ put_record log (next.stamp.0 - 1) 1 rows.0 end
-      → clock₁ ≡ put_moment clock next.stamp.0 next.rows.0 → clock' ≡ put_changes_used clock₁ end
-      → Recorded clock log rows.0 end clock' log' (At next.stamp rows)
-  unfolding clock_in later put_moment put_changes_used
-  recorded-is rows end next clock₁ clock' log' e p q r = record {
-    clock-is = rw (r, q, e, k);
-    log_is = let z : stamp_in clock + 1 - 1 ≡ stamp_in clock = omega arith in rw (p, e, k, z);
-    says = rw (e, k);
-  }

@@ -14,6 +14,7 @@ use outcomes::Answer;
 use tables::{NumberTables, Refusal, Session};
 
 // The refusals 11, 12, 15, 16 and 17.
+#[tactic(auto, unfolding(crate::specs::Commit::commit_tests, tables::specs::Clock::clock_in))]
 fn ready(clock: &[u32], log: &[u32], changes: &[u32], s: Session) -> Result<(), Refusal>
     requires { CommitAsked clock.now log.now changes.now s }
     ensures { why_of result ≡ first_of (commit_tests clock.now log.now changes.now s) }

@@ -26,6 +26,7 @@ pub fn toggled(set: u32, held: Option<Value>) -> u32
 }
 
 // The new flip set of a listed row: that at the start, with its read and its target toggled.
+#[tactic(auto, unfolding(tables::specs::Clock::clock_in))]
 fn new_set(t: NumberTables, start: Stamp, row: Row, to: u8) -> u32
     requires { (6 ≤ length t.clock.now) × ReadReady t.slots.now t.words.now t.heads.now t.log.now t.changes.now
         (values_in t.clock.now) start.0 }
@@ -134,6 +135,7 @@ fn write_changes(
 }
 
 // The record of a commit and the clock after it are written.
+#[tactic(auto, unfolding(tables::specs::Clock::clock_in, tables::specs::Clock::later))]
 fn write_commit(clock: &mut [u32], log: &mut [u32], rows: Row, end: u32) -> Answer
     requires { (6 ≤ length clock.old) × (2048 ≤ length log.old) × (stamp_in clock.old < 512) }
     ensures { Recorded clock.old log.old rows.0 end clock.new log.new result }

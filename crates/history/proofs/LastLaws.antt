@@ -62,7 +62,8 @@ module _ (changes : List ℕ) (row : ℕ) where
       → f || eqb (get_or (block a) i 0) row ≡ in_cut a (a + (i + 1))
   block-fold a i f h e =
       let z : get_or (block a) i 0 ≡ change_row changes (a + i) =
-      get_or-take (a + 64 - a) (drop a changes) i 0 (omega (arith, length-take (a + 64 - a) (drop a changes))) ∙ get_or-drop a changes i 0 in
+      get_or-take (a + 64 - a) (drop a changes) i 0 (omega (arith, length-take (a + 64 - a) (drop a changes)))
+      ∙ get_or-drop a changes i 0 in
       let y : a + (i + 1) ≡ a + i + 1 = omega arith in
       rw (z, y, e, names_more a (a + i) (omega arith))
 
@@ -141,7 +142,8 @@ module _ (changes : List ℕ) (row : ℕ) where
 
   -- ---- its flip set
 
-  pub last_more : (a n : ℕ) → a ≤ n → last_naming (cut a (suc n)) row ≡ or_else (naming (change_at changes n) row) (last_naming (cut a n) row)
+  pub last_more : (a n : ℕ) → a ≤ n → last_naming (cut a (suc n)) row
+      ≡ or_else (naming (change_at changes n) row) (last_naming (cut a n) row)
   last_more a n h = rw (stretch-step (change_at changes) a n h) (last_naming-append (cut a n) (change_at changes n ∷ []) row)
 
   -- the set of the change before place k, where that lies in a stretch from a on
@@ -201,12 +203,14 @@ module _ (changes : List ℕ) (row : ℕ) where
       go (suc k) o e = refl
 
   -- the last change of a stretch, from that of all changes up to its end
-  pub last-since : (a n : ℕ) → last_naming (cut a n) row ≡ cond (ltb a (place_of (last_of changes n row))) (some (set_of (last_of changes n row))) none
+  pub last-since : (a n : ℕ) → last_naming (cut a n) row
+      ≡ cond (ltb a (place_of (last_of changes n row))) (some (set_of (last_of changes n row))) none
   unfolding last_set
   last-since a n = rw (place_of-last n, set_of-last n, last-at a n) (go (ltb a (last_place changes row n)) refl)
     where
       go : (t : Bool) → ltb a (last_place changes row n) ≡ t
-          → cond t (some (change_set changes (last_place changes row n - 1))) none ≡ cond t (some (or_empty (last_naming (cut 0 n) row))) none
+          → cond t (some (change_set changes (last_place changes row n - 1))) none
+          ≡ cond t (some (or_empty (last_naming (cut 0 n) row))) none
       go true h = rw (last-at 0 n, lt-ltb 0 (last_place changes row n) (omega (arith, ltb-true a (last_place changes row n) h)))
       go false h = refl
 

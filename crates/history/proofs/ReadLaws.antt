@@ -84,7 +84,8 @@ last-flips changes from to v row =
     go false = sym (bit-of-zero v)
 
 pub after-cells : (slots words heads log changes : List ℕ) (values s row : ℕ)
-    → read_after slots words heads log values s row (last_of changes (end_at log s) row) ≡ read_cells slots words heads log changes values s row
+    → read_after slots words heads log values s row (last_of changes (end_at log s) row)
+    ≡ read_cells slots words heads log changes values s row
 unfolding read_after read_cells has_after queried_at queried_since
 after-cells slots words heads log changes values s row =
     smallest-ext (λ w. has_after (base_seen slots heads log s w) words row (last_of changes (end_at log s) row) w)

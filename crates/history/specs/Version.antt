@@ -7,7 +7,8 @@ use Rattle.history.specs.declared.chain.Base.{Base}
 -- leads to; a chain ends where there is no link, and where a link does not fall
 unfoldable pub version_step : List ℕ → ℕ → (ℕ → ℕ) → ℕ → ℕ
 version_step slots s rest i =
-    cond (leb (slot_stamp slots i) s) i (cond (eqb (slot_link slots i) 0) i (cond (ltb i (slot_link slots i)) i (rest (slot_link slots i - 1))))
+    cond (leb (slot_stamp slots i) s) i
+    (cond (eqb (slot_link slots i) 0) i (cond (ltb i (slot_link slots i)) i (rest (slot_link slots i - 1))))
 
 -- at most n links further
 unfoldable pub version_from : List ℕ → ℕ → ℕ → ℕ → ℕ

@@ -1,7 +1,7 @@
 -- Update, delete and insert: what each end of their parts and of their cores comes to.
 use Rattle.std.specs.Prelude as kit
 use Rattle.std.specs.Prelude.{Result, Ok, Err}
-use mathlib.Core.Path.{◌≡◌, sym, ◌∙◌}
+use mathlib.Core.Path.{◌≡◌, refl, sym, ◌∙◌}
 use mathlib.Core.Bool.{true, false, and-true, and-false}
 use mathlib.Core.Option.{Option}
 use mathlib.Core.List.{List, []}
@@ -64,7 +64,6 @@ not_full x h = lt-leb 32 (length (entries x)) (omega (arith, length-entries x))
 
 -- ---- an entry more
 
--- what is left of an open session, as a part without tables comes to it
 module _ (x : Session) (at to : ℕ) where
   abbrev Appends : Result Session Refusal → Type 0
   Appends d = SettlesAny x (relisting d) (list_answer d) (λ t n. append_of t n at to)
@@ -81,20 +80,19 @@ module _ (x : Session) (at to : ℕ) where
 
 -- ---- a row's target
 
-module _ (x : Session) (row to : ℕ) (d : Result Session Refusal) (low : row < 65535) (spot : ℕ) (p : spot ≡ spot_of x row) (k : ℕ)
-    (m : k ≡ x.count) (at : ℕ) (a : at ≡ row) where
+module _ (x : Session) (row to : ℕ) (low : row < 65535) (spot : ℕ) (p : spot ≡ spot_of x row) (at : ℕ) (a : at ≡ row) where
   abbrev Puts : Result Session Refusal → Type 0
-  Puts e = SettlesAny x (relisting e) (list_answer e) (λ t n. target_put t n row to)
+  Puts d = SettlesAny x (relisting d) (list_answer d) (λ t n. target_put t n row to)
 
-  pub target-there : (y : Session) → spot < k → y ≡ with_entry x spot at to x.count → Puts (Ok y)
+  pub target-there : (y : Session) → spot < x.count → y ≡ with_entry x spot at to x.count → Puts (Ok y)
   unfolding target_put with_entry unless
   target-there y l w n t o =
       let here : spot_of x row < x.count = omega arith in
       relisted-left t [] n (Ok y) y o.place-low refl
       ∙ rw (w, p, a, open-list t n x o, listed-lists x row low here, and-false, o.own-there, lt-ltb (spot_of x row) x.count here)
 
-  pub target-new : k ≤ spot → Appends x at to d → Puts d
+  pub target-new : (d : Result Session Refusal) → x.count ≤ spot → Appends x at to d → Puts d
   unfolding target_put append_of
-  target-new l f n t o =
+  target-new d l f n t o =
       let off : x.count ≤ spot_of x row = omega arith in
       f n t o ∙ rw (a, open-list t n x o, unlisted-lists x row low off, and-true, o.own-there, unlisted-spot x row low off)

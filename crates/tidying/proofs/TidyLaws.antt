@@ -1,12 +1,12 @@
--- A tidy as a whole: its record and clock, all tables after it, and what the call comes to.
+-- A tidy as a whole: all tables after it, and what the call comes to.
 use Rattle.std.specs.Prelude.{Result, Ok, Err}
 use mathlib.Core.Path.{◌≡◌, refl, sym, ap, ap₂, ◌∙◌}
 use mathlib.Core.Option.{Option, none, some}
 use mathlib.Core.List.{List, [], ◌∷◌}
-use Prim.Native.Nat.{ℕ, ◌+◌, ◌-◌, ◌≤◌, ◌<◌}
+use Prim.Native.Nat.{ℕ, ◌+◌, ◌≤◌, ◌<◌}
 use native.Mathlib.Omega.{arith}
 use borrow.Author.Tests.{leb-false, ltb-false}
-use lib.ListN.{length, set}
+use lib.ListN.{length}
 use Rattle.bits.specs.Rows.{count_of, rows_of}
 use Rattle.bits.specs.Vec.{vec}
 use Rattle.rules.specs.State.{session}
@@ -14,19 +14,16 @@ use Rattle.rules.specs.Tidy.{moved}
 use Rattle.rules.specs.Calls.{tidy}
 use Rattle.rules.specs.Refusals.{first_of, tests}
 use Rattle.rules.proofs.Tests.{all-fail}
-use Rattle.tables.specs.declared.clock.Clock.{Clock}
 use Rattle.tables.specs.declared.session.Session.{Session}
 use Rattle.tables.specs.declared.refusal.Refusal.{Refusal}
 use Rattle.tables.specs.Refusals.{number_of}
 use Rattle.tables.specs.Cells.{Tables, tables, stamp_in, slots_in, changes_in, end_at}
 use Rattle.tables.specs.Clock.{clock_in, later}
 use Rattle.tables.specs.Meaning.{meaning}
-use Rattle.tables.specs.Stores.{put_record, put_moment, put_slots_used, put_changes_used}
 use Rattle.tables.proofs.Facts.{room-facts, parts, clock-limits, last_end, end-high}
 use Rattle.history.specs.Flips.{flipped_in, RowsLow}
 use Rattle.history.proofs.Ready.{based, rows-low}
 use Rattle.outcomes.specs.declared.answers.Answer.{Answer}
-use Rattle.outcomes.specs.declared.answers.Answer.TheVariants.{At}
 use Rattle.lent.specs.declared.seats.Seat.{Seat}
 use Rattle.outcomes.specs.Said.{numbers_of, numbers}
 use Rattle.outcomes.specs.Outcome.{Outcome, outcome, unless}
@@ -35,63 +32,13 @@ use Rattle.outcomes.specs.Calls.{own, tidy_stores, tidy_of}
 use Rattle.outcomes.specs.Seats.{untouched, Serves}
 use Rattle.outcomes.specs.Enter.{valued_by}
 use Rattle.tidying.specs.declared.tidy.Plan.{Plan}
-use Rattle.tidying.specs.Tidy.{tidy_tests, RowsPut, Puttable, Fillable, VersionPut, Tidyable, TidyReady, Plannable, plan_of}
+use Rattle.tidying.specs.Tidy.{tidy_tests, RowsPut, Puttable, Fillable, VersionPut, Tidyable, TidyReady, plan_of}
 use Rattle.tidying.specs.Tidy.{moved_in, tidy_clock, tidy_log, tidied_cells, Tidied, tidy_cells, Tidies}
 use Rattle.outcomes.proofs.Entered.{bare, Valued, valued-passed, valued-goes, valued-shows}
 use Rattle.outcomes.proofs.Serving.{idle, valued-refused}
 use Rattle.tidying.proofs.TidyMeets.{rest_tests, tests-meet, cells_meet}
 
--- ---- the record and the clock
-
-pub counts-written : (clock c₁ c₂ c₃ : List ℕ) (stamp rows slots changes : ℕ) → c₁ ≡ put_moment clock stamp rows → c₂ ≡ put_slots_used c₁ slots
-    → c₃ ≡ put_changes_used c₂ changes
-    → c₃ ≡ set (set (set (set clock 2 stamp) 3 rows) 4 slots) 5 changes
-unfolding put_moment put_slots_used put_changes_used
-counts-written clock c₁ c₂ c₃ stamp rows slots changes a b c =
-    rw (c, b, a)
-
-pub stamp-fits : (clock : List ℕ) (c : Clock) → c ≡ clock_in clock → stamp_in clock < 512 → c.stamp.0 < 4294967295
-unfolding clock_in
-stamp-fits clock c e h = rw e (omega arith)
-
-module _ (clock : List ℕ) where
-  module _ (next : Clock) (n : next ≡ later (clock_in clock) (clock_in clock).rows) where
-    pub stamp-first : 0 < next.stamp.0
-    unfolding later
-    stamp-first = rw n (omega arith)
-
-    pub stamp-low : stamp_in clock < 512 → next.stamp.0 ≤ 512
-    unfolding clock_in later
-    stamp-low h = rw n (omega arith)
-
-  module _ (moved used slots : ℕ) (u : used ≡ changes_in clock) (s : slots ≡ slots_in clock) (next : Clock)
-      (n : next ≡ later (clock_in clock) (clock_in clock).rows) where
-    pub log-tidied : (log log' : List ℕ) → log' ≡ put_record log (next.stamp.0 - 1) 2 next.rows.0 (used + moved)
-        → log' ≡ tidy_log clock log moved
-    unfolding later clock_in
-    log-tidied log log' q = let z : stamp_in clock + 1 - 1 ≡ stamp_in clock = omega arith in rw (q, n, u, z)
-
-    pub clock-tidied : (clock' : List ℕ)
-        → clock' ≡ set (set (set (set clock 2 next.stamp.0) 3 next.rows.0) 4 (slots + 1)) 5 (used + moved)
-        → clock' ≡ tidy_clock clock moved
-    unfolding later clock_in
-    clock-tidied clock' q = rw (q, n, s, u)
-
-    pub tidy-said : numbers_of (At next.stamp (record { 0 = moved })) ≡ numbers ((stamp_in clock + 1) ∷ moved ∷ [])
-    unfolding later clock_in
-    tidy-said = rw n
-
 -- ---- all tables after it
-
-module _ (clock log moved : List ℕ) (s : ℕ) where
-  pub plan-ticks : Plannable clock log s moved → (c : Clock) → c ≡ clock_in clock → c.stamp.0 < 4294967295
-  plan-ticks f c e = stamp-fits clock c e f.stamp-low
-
-  pub plan-is : (c next : Clock) (slot used to n : ℕ) → c ≡ clock_in clock → next ≡ later c c.rows → slot ≡ slots_in clock
-      → used ≡ changes_in clock → to ≡ end_at log s → n ≡ count_of moved
-      → record { next = next; slot = slot; used = used; to = to; count = n } ≡ plan_of clock log s moved
-  unfolding plan_of
-  plan-is c next slot used to n e h k u t a = rw (h, e, k, u, t, a)
 
 module _ (clock slots words heads log changes moved : List ℕ) (s v : ℕ) (f : TidyReady clock slots words heads log changes s v moved) where
   module _ (p : Plan) (e : p ≡ plan_of clock log s moved) where

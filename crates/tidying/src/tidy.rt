@@ -39,6 +39,7 @@ fn touched(changes: &[u32], from: usize, to: usize, moved: &[u64; 32], v: Value)
 }
 
 // Whether a tidy of v at s is stale.
+#[tactic(auto, unfolding(crate::specs::Tidy::stale_at))]
 fn stale(t: NumberTables, last: Stamp, s: Stamp, v: Value, moved: &[u64; 32]) -> bool
     requires { Datable t.slots.now t.heads.now t.log.now t.changes.now last.0 s.0 v.0 }
     ensures { result ≡ stale_at t.entry.slots.now t.entry.heads.now t.entry.log.now t.entry.changes.now
@@ -54,6 +55,7 @@ fn stale(t: NumberTables, last: Stamp, s: Stamp, v: Value, moved: &[u64; 32]) ->
 }
 
 // The change of a moved row is written at p: its flip set up to `to` less v, also where that leaves none. The place after it.
+#[tactic(auto, using(crate::proofs::MovedLaws::put_one))]
 fn put_less(changes: &mut [u32], p: usize, to: usize, row: Row, v: Value) -> usize
     requires { Puttable changes.old p to v.0 1 }
     ensures { RowsPut (row.0 ∷ []) p to v.0 changes.old changes.new result }
@@ -167,6 +169,7 @@ fn write_counts(clock: &mut [u32], c: Clock, slots: u32, changes: u32)
 }
 
 // The record of a tidy and the clock after it are written.
+#[tactic(auto, unfolding(tables::specs::Clock::later, tables::specs::Clock::clock_in))]
 fn write_tidy(clock: &mut [u32], log: &mut [u32], next: Clock, moved: u32) -> Answer
     requires { (next ≡ later (clock_in clock.old) (clock_in clock.old).rows) × (6 ≤ length clock.old) ×
         (2048 ≤ length log.old) × (stamp_in clock.old < 512) × (changes_in clock.old + moved ≤ 2048) ×
@@ -183,6 +186,7 @@ fn write_tidy(clock: &mut [u32], log: &mut [u32], next: Clock, moved: u32) -> An
 }
 
 // The refusals 13, 14, 16, 17 and 18.
+#[tactic(auto, using(crate::proofs::StaleLaws::count_few), unfolding(crate::specs::Tidy::tidy_tests, tables::specs::Clock::clock_in))]
 fn ready(t: NumberTables, s: Stamp, v: Value, moved: &[u64; 32]) -> Result<(), Refusal>
     requires { (6 ≤ length t.clock.now) × Datable t.slots.now t.heads.now t.log.now t.changes.now (stamp_in t.clock.now) s.0 v.0 }
     ensures { why_of result ≡ first_of
@@ -221,6 +225,7 @@ pub struct Plan {
 }
 
 // The plan of a tidy at s.
+#[tactic(auto, unfolding(crate::specs::Tidy::plan_of, tables::specs::Clock::clock_in))]
 fn planned(clock: &[u32], log: &[u32], s: Stamp, moved: &[u64; 32]) -> Plan
     requires { Plannable clock.now log.now s.0 moved.now }
     ensures { result ≡ plan_of clock.now log.now s.0 moved.now }

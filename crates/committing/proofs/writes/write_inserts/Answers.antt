@@ -2,7 +2,7 @@
 use mathlib.Core.Path.{refl}
 use native.Mathlib.Omega.{arith}
 use Rattle.committing.proofs.WriteLaws.{length-put}
-use Rattle.committing.proofs.WriteLaws.{inserts-start, insert-place, insert-row, inserts-more, inserts-skip, inserts-all}
+use Rattle.committing.proofs.WriteLaws.{inserts-start, insert-place, inserts-more, inserts-skip}
 use Rattle.committing.proofs.writes.write_inserts.Goals as goal
 use Rattle.committing.proofs.writes.write_inserts.Goals.{then-s-i, else-s-i}
 
@@ -18,9 +18,3 @@ loop-i-init c = (refl, omega arith, search inserts-start)
 
 pub put_change-requires : goal.put_change-requires
 put_change-requires c = (search insert-place, omega arith)
-
-pub overflow_add-row : goal.overflow_add-row
-overflow_add-row c = search insert-row
-
-pub returns : goal.returns
-returns c = search inserts-all

@@ -1,7 +1,7 @@
 -- `writes::write_rows` meets its contract: the rows among the first i entries are stored.
 use mathlib.Core.Path.{refl}
 use native.Mathlib.Omega.{arith}
-use Rattle.committing.proofs.WriteLaws.{length-put, rows_start, row-ready, rows_more, rows-skip, rows_all}
+use Rattle.committing.proofs.WriteLaws.{length-put, rows_start, rows_more, rows-skip}
 use Rattle.committing.proofs.writes.write_rows.Goals as goal
 use Rattle.committing.proofs.writes.write_rows.Goals.{then-s-i, else-s-i}
 
@@ -14,9 +14,3 @@ loop-i-preserved c =
 
 pub loop-i-init : goal.loop-i-init
 loop-i-init c = (refl, omega arith, search rows_start)
-
-pub write_row-requires : goal.write_row-requires
-write_row-requires c = search row-ready
-
-pub returns : goal.returns
-returns c = search rows_all

@@ -6,8 +6,11 @@ use borrow.Author.Rules.{rules}
 use Rattle.history.proofs.span.add_value.Goals as goal
 
 pub merge-requires : goal.merge-requires
-merge-requires c = let long = sym c.requires.0 in
-    (slot-length _ _ _ c.slot_words-own.ensures c.base_of-base.ensures.0 c.requires.1.words-room ∙ long, vec-long _ _ c.flips-mask.ensures ∙ long)
+merge-requires c =
+    let long = sym c.requires.0 in (
+      slot-length _ _ _ c.slot_words-own.ensures c.base_of-base.ensures.0 c.requires.1.words-room ∙ long,
+      vec-long _ _ c.flips-mask.ensures ∙ long,
+    )
 
 pub returns : goal.returns
 returns c =

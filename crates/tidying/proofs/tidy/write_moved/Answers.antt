@@ -1,6 +1,6 @@
 -- `tidy::write_moved` meets its contract: the rows of the words before i are put.
 use native.Mathlib.Omega.{arith}
-use Rattle.tidying.proofs.MovedLaws.{moved_none, word-puttable, moved-more, put-length, moved_all}
+use Rattle.tidying.proofs.MovedLaws.{moved_none, word-puttable, moved-more, moved_all}
 use Rattle.tidying.proofs.tidy.write_moved.Goals as goal
 
 pub loop-i-init : goal.loop-i-init

@@ -1,6 +1,5 @@
 -- `tidy::write_word` meets its contract: what is put of the rows of the word, and what is still to come, is the whole.
-use native.Mathlib.Omega.{arith}
-use Rattle.tidying.proofs.MovedLaws.{word-begun, next-lt, next-puttable, word-less, word_more, word-put}
+use Rattle.tidying.proofs.MovedLaws.{word-begun, next-puttable, word-less, word_more, word-put}
 use Rattle.tidying.proofs.tidy.write_word.Goals as goal
 
 pub loop-x-init : goal.loop-x-init
