@@ -23,7 +23,7 @@ use Rattle.writing.proofs.WroteLaws.{answer-line}
 use Rattle.outcomes.specs.declared.answers.Place.{Place}
 use Rattle.outcomes.specs.declared.answers.Answer as core
 use Rattle.outcomes.specs.declared.answers.Answer.TheVariants.{Count, At, Read, Listed}
-use Rattle.outcomes.specs.Said.{said, place_of}
+use Rattle.outcomes.specs.Said.{Said, no, said, numbers_of, place_of}
 use Rattle.outcomes.specs.Query.{picked_from}
 use Rattle.lines.specs.Line.{answer_line, PutLine}
 use Rattle.lines.specs.Turn.{heard_from}
@@ -62,40 +62,46 @@ module _ (d e : List ℕ) (r : ℕ) (found : std.Option Value) where
 
 -- ---- every answer
 
-module _ (ws s d e : List ℕ) (r : ℕ) (answer : std.Result core.Answer Refusal) where
-  heard-as : (x : std.Result core.Answer Refusal) (a : Answer) (k : ℕ) → answer ≡ x → heard_from ws s (said x) ≡ a → Answered d a e r k → k ≤ 10275
-      → Answered d (heard_from ws s (said answer)) e r 10275
-  heard-as x a k p q h l =
+module _ (ws s d e : List ℕ) (r : ℕ) where
+  -- with room for the longest
+  heard-as : (x : Said) (a : Answer) (k : ℕ) → heard_from ws s x ≡ a → Answered d a e r k → k ≤ 10275 → Answered d (heard_from ws s x) e r 10275
+  heard-as x a k q h l =
       let b : Answered d a e r 10275 = record { wrote = h.wrote; short = omega (arith, h.short, l) } in
-      rw (p, q) b
+      rw q b
 
-  pub put_refused : (why : Refusal) (n : ℕ) → answer ≡ std.Err why → n ≡ number_of why → Answered d (refused n) e r 13
-      → Answered d (heard_from ws s (said answer)) e r 10275
+  pub put_refused : (answer : std.Result core.Answer Refusal) (why : Refusal) (n : ℕ) → answer ≡ std.Err why → n ≡ number_of why
+      → Answered d (refused n) e r 13 → Answered d (heard_from ws s (said answer)) e r 10275
   unfolding heard_from
-  put_refused why n p q h = heard-as (std.Err why) (refused n) 13 p (ap refused (sym q)) h (omega arith)
+  put_refused answer why n p q h = rw p (heard-as (no (number_of why)) (refused n) 13 (ap refused (sym q)) h (omega arith))
 
-  pub put_count : (n : ℕ) → answer ≡ std.Ok (Count n) → Answered d (ok (n ∷ [])) e r 13 → Answered d (heard_from ws s (said answer)) e r 10275
-  unfolding heard_from
-  put_count n p h = heard-as (std.Ok (Count n)) (ok (n ∷ [])) 13 p refl h (omega arith)
+  pub put_accepted : (answer : std.Result core.Answer Refusal) (a : core.Answer) → answer ≡ std.Ok a
+      → Answered d (heard_from ws s (numbers_of a)) e r 10275 → Answered d (heard_from ws s (said answer)) e r 10275
+  put_accepted answer a p h = rw p h
 
-  pub put-at : (t : Stamp) (n : Row) → answer ≡ std.Ok (At t n) → Answered d (ok (t.0 ∷ n.0 ∷ [])) e r 24
-      → Answered d (heard_from ws s (said answer)) e r 10275
-  unfolding heard_from
-  put-at t n p h = heard-as (std.Ok (At t n)) (ok (t.0 ∷ n.0 ∷ [])) 24 p refl h (omega arith)
+  module _ (answer : core.Answer) where
+    pub put_count : (n : ℕ) → answer ≡ Count n → Answered d (ok (n ∷ [])) e r 13 → Answered d (heard_from ws s (numbers_of answer)) e r 10275
+    unfolding heard_from
+    put_count n p h = rw p (heard-as (numbers_of (Count n)) (ok (n ∷ [])) 13 refl h (omega arith))
 
-  pub put-read : (x : std.Option Value) → answer ≡ std.Ok (Read x) → Answered d (value (standing_of x)) e r 13
-      → Answered d (heard_from ws s (said answer)) e r 10275
-  unfolding heard_from
-  put-read x p h = heard-as (std.Ok (Read x)) (value (standing_of x)) 13 p refl h (omega arith)
+    pub put-at : (t : Stamp) (n : Row) → answer ≡ At t n → Answered d (ok (t.0 ∷ n.0 ∷ [])) e r 24
+        → Answered d (heard_from ws s (numbers_of answer)) e r 10275
+    unfolding heard_from
+    put-at t n p h = rw p (heard-as (numbers_of (At t n)) (ok (t.0 ∷ n.0 ∷ [])) 24 refl h (omega arith))
 
-  pub put-listed : (flips : ℕ) (due : Bool) (place : Place) (vector : List ℕ) → answer ≡ std.Ok (Listed flips due place)
-      → vector ≡ picked_from ws s (place_of place)
-      → Answered d (listed flips due (rows_of vector)) e r (35 + 320 * length vector) → Answered d (heard_from ws s (said answer)) e r 10275
-  unfolding heard_from
-  put-listed flips due place vector p q h =
-      heard-as (std.Ok (Listed flips due place)) (listed flips due (rows_of vector)) (35 + 320 * length vector) p
-      (ap (λ (v : List ℕ). listed flips due (rows_of v)) (sym q)) h
-      (omega (arith, ap length q, picked-short ws s (place_of place)))
+    pub put-read : (x : std.Option Value) → answer ≡ Read x → Answered d (value (standing_of x)) e r 13
+        → Answered d (heard_from ws s (numbers_of answer)) e r 10275
+    unfolding heard_from
+    put-read x p h = rw p (heard-as (numbers_of (Read x)) (value (standing_of x)) 13 refl h (omega arith))
+
+    pub put-listed : (flips : ℕ) (due : Bool) (place : Place) (vector : List ℕ) → answer ≡ Listed flips due place
+        → vector ≡ picked_from ws s (place_of place)
+        → Answered d (listed flips due (rows_of vector)) e r (35 + 320 * length vector) → Answered d (heard_from ws s (numbers_of answer)) e r 10275
+    unfolding heard_from
+    put-listed flips due place vector p q h =
+        rw p
+        (heard-as (numbers_of (Listed flips due place)) (listed flips due (rows_of vector)) (35 + 320 * length vector)
+        (ap (λ (v : List ℕ). listed flips due (rows_of v)) (sym q)) h
+        (omega (arith, ap length q, picked-short ws s (place_of place))))
 
 -- an answer and its newline
 pub put-answered : (ws s d e f : List ℕ) (n r : ℕ) (answer : std.Result core.Answer Refusal) → Answered d (heard_from ws s (said answer)) e n 10275

@@ -9,8 +9,7 @@ use borrow.Author.Tests.{le-leb, lt-leb}
 use lib.Dec.{leb}
 use lib.ListN.{length}
 use lib.Seq.{sets}
-use Rattle.tables.specs.declared.session.Session.{Session}
-use Rattle.tables.specs.Cells.{Tables, tables}
+use Rattle.tables.specs.Cells.{Tables}
 use Rattle.text.specs.declared.requests.Request.{Request}
 use Rattle.text.specs.Parse.{parse}
 use Rattle.text.specs.Asked.{asked, line_bytes, Requested}

@@ -1,15 +1,14 @@
 -- The call that a request asks for: what its public call comes to is what the line's definition says.
 use mathlib.Core.Path.{◌≡◌, refl, sym, ap, ap₂, ◌∙◌}
 use mathlib.Core.Bool.{Bool, true, false, cond}
-use mathlib.Core.List.{List, [], ◌∷◌, ◌++◌, map, append-nil}
+use mathlib.Core.List.{List, [], ◌∷◌, map}
 use mathlib.Core.Option.{Option, none, some}
 use mathlib.Core.Logic.{◌⊎◌, inl, inr}
-use Prim.Native.Nat.{ℕ, ◌<◌, ◌≤◌}
-use native.Mathlib.Omega.{arith}
-use borrow.Author.Tests.{eq-eqb, ne_eqb, lt-ltb, le-ltb}
+use Prim.Native.Nat.{ℕ, ◌≤◌}
+use borrow.Author.Tests.{eq-eqb, ne_eqb}
 use lib.Dec.{eqb, ltb}
-use lib.ListN.{length, take, set, replicate, length-replicate, drop_of_length-le}
-use lib.Seq.{length-take-le, sets-eq}
+use lib.ListN.{length, take}
+use lib.Seq.{length-take-le}
 use Rattle.bits.proofs.Cases.{eq-cases}
 use Rattle.bits.specs.Column.{value_of}
 use Rattle.bits.specs.Tab.{over}
@@ -18,13 +17,11 @@ use Rattle.rules.specs.State.{session, start_of}
 use Rattle.rules.specs.Limits.{usual_threshold}
 use Rattle.rules.specs.Calls.{Call}
 use Rattle.tables.specs.declared.session.Session.{Session}
-use Rattle.tables.specs.declared.counts.Stamp.{Stamp}
-use Rattle.tables.specs.declared.counts.Row.{Row}
 use Rattle.tables.specs.declared.refusal.Refusal.{Refusal}
 use Rattle.tables.specs.declared.refusal.Refusal.TheVariants.{Unreadable}
 use Rattle.tables.specs.Cells.{Tables, tables, stamp_in, rows_in}
 use Rattle.tables.specs.Clock.{clock_in}
-use Rattle.tables.specs.Sessions.{freed, begun}
+use Rattle.tables.specs.Sessions.{begun}
 use Rattle.tables.specs.Meaning.{meaning}
 use Rattle.history.specs.Version.{slot_seen}
 use Rattle.std.specs.Prelude.{Some, None}
@@ -32,9 +29,8 @@ use Rattle.std.specs.Prelude as std
 use Rattle.text.specs.declared.requests.Request.{Request}
 use Rattle.text.specs.declared.requests.Request.TheVariants as request
 use Rattle.text.specs.Asked.{asked_by, asked, taken_by, taken}
-use Rattle.outcomes.specs.declared.answers.Place.{Place}
 use Rattle.outcomes.specs.declared.answers.Answer as core
-use Rattle.outcomes.specs.Said.{Said, no, numbers, value, words, said}
+use Rattle.outcomes.specs.Said.{Said, numbers, value, words, said}
 use Rattle.outcomes.specs.Outcome.{Outcome, outcome, unless}
 use Rattle.outcomes.specs.Calls.{own, reseated, beginning, create_of, begin_of, read_of, update_of, delete_of, insert_of, commit_of, tidy_of}
 use Rattle.outcomes.specs.Calls.{abort_of}

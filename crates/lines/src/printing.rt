@@ -3,7 +3,7 @@ ghost use Rattle.std.specs.Prelude.{◌≤◌, length};
 ghost use Rattle.rules.specs.Calls.{value};
 ghost use Rattle.writing.specs.Wrote.{Answered};
 ghost use Rattle.history.specs.Read.{standing_of};
-ghost use Rattle.outcomes.specs.Said.{said};
+ghost use Rattle.outcomes.specs.Said.{said, numbers_of};
 ghost use Rattle.lines.specs.Line.{PutLine};
 ghost use Rattle.lines.specs.Turn.{heard_from};
 
@@ -21,7 +21,24 @@ fn put_standing(out: &mut [u8], found: Option<Value>) -> usize
     }
 }
 
-// An answer; a query's rows are those of the words at its place.
+// An accepted call's answer; a query's rows are those of the words at its place.
+fn put_accepted<'a>(out: &mut [u8], answer: Answer, words: &'a [u64], scratch: &'a [u64]) -> usize
+    requires { 10275 ≤ length out.old }
+    ensures { Answered out.old (heard_from words.now scratch.now (numbers_of answer))
+        out.new result 10275 }
+{
+    match answer {
+        Answer::Count(n) => writing::put_ok_one(out, n),
+        Answer::At(s, n) => writing::put_ok_two(out, s.0, n.0),
+        Answer::Read(found) => put_standing(out, found),
+        Answer::Listed(flips, due, place) => {
+            let vector = reading::picked(words, scratch, place);
+            writing::put_queried(out, flips, due, vector)
+        }
+    }
+}
+
+// An answer, or why there is none.
 fn put_answer<'a>(
     out: &mut [u8],
     answer: Result<Answer, Refusal>,
@@ -33,14 +50,8 @@ fn put_answer<'a>(
         out.new result 10275 }
 {
     match answer {
+        Ok(accepted) => put_accepted(out, accepted, words, scratch),
         Err(why) => writing::put_no(out, u32::from(why)),
-        Ok(Answer::Count(n)) => writing::put_ok_one(out, n),
-        Ok(Answer::At(s, n)) => writing::put_ok_two(out, s.0, n.0),
-        Ok(Answer::Read(found)) => put_standing(out, found),
-        Ok(Answer::Listed(flips, due, place)) => {
-            let vector = reading::picked(words, scratch, place);
-            writing::put_queried(out, flips, due, vector)
-        }
     }
 }
 
