@@ -1,5 +1,6 @@
 -- What an export says: C sees what the call's definition says.
-use Rattle.std.proofs.Common.{◌≡◌, ◌∙◌, ap, List, ℕ}
+use Rattle.std.proofs.Common.{Result, ◌≡◌, ◌∙◌, ap, List, ℕ}
+use Rattle.tables.specs.declared.refusal.Refusal.{Refusal}
 use Rattle.tables.specs.Cells.{Tables}
 use Rattle.outcomes.specs.declared.answers.Answer.{Answer}
 use Rattle.outcomes.specs.Said.{said}
@@ -8,6 +9,6 @@ use Rattle.kerenvuf.specs.declared.in_numbers.KvAnswer.{KvAnswer}
 use Rattle.kerenvuf.specs.Heard.{seen, in_numbers, encoded}
 
 -- it follows from what the call of the index says, and from its answer in numbers
-pub encodes : (t : Tables) (bs : List (List ℕ)) (a : Answer) (o : Outcome) (r : KvAnswer) → outcome t bs (said a) ≡ o → r ≡ encoded (said a)
+pub encodes : (t : Tables) (bs : List (List ℕ)) (a : Result Answer Refusal) (o : Outcome) (r : KvAnswer) → outcome t bs (said a) ≡ o → r ≡ encoded (said a)
     → seen t bs r ≡ in_numbers o
 encodes t bs a o r h e = ap (seen t bs) e ∙ ap in_numbers h

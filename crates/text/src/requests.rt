@@ -23,7 +23,9 @@ pub enum Request {
     Abort { session: u64 },
 }
 
-// The numbers in the fields after the space at `at`, if these are N numbers and no more.
+// The numbers in the fields after the space at `at`, if these are N numbers and no more. Inlined: LLVM copies the step program's sessions
+// once more for each line that it makes this call for.
+#[inline(always)]
 pub fn numbers<const N: usize>(line: &[u8], at: usize) -> Option<[u64; N]>
     requires { at ≤ length line.now }
     ensures { result ≡ exactly N (each number (after space line.now at)) }

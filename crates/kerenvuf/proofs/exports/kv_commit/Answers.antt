@@ -3,4 +3,4 @@ use Rattle.kerenvuf.proofs.Exported.{encodes}
 use Rattle.kerenvuf.proofs.exports.kv_commit.Goals as goal
 
 pub returns : goal.returns
-returns c = encodes _ _ _ _ _ c.commit-answer.ensures c.numbers.ensures
+returns c = encodes _ _ _ _ _ c.commit.ensures c.from.ensures

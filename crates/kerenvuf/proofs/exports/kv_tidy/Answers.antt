@@ -3,4 +3,4 @@ use Rattle.kerenvuf.proofs.Exported.{encodes}
 use Rattle.kerenvuf.proofs.exports.kv_tidy.Goals as goal
 
 pub returns : goal.returns
-returns c = encodes _ _ _ _ _ c.tidy-answer.ensures c.numbers.ensures
+returns c = encodes _ _ _ _ _ c.tidy.ensures c.from.ensures
