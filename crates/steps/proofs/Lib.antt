@@ -1,6 +1,5 @@
 -- The laws of lines answered one after another and of the whole program.
 pub mod ReplyLaws
-pub mod KeptLaws
 pub mod ChunkLaws
 pub mod DoesLaws
 pub mod ProgramLaws

@@ -268,12 +268,12 @@ told_fresh t o e f = let pair : Watch → Watch → Told = λ a b. record { hand
 module _ (clock slots words heads log changes scratch : List ℕ) (ts : List Session) (len : ℕ) (h : Watch) (t : Told) (i o : ℕ) where
   pub program-is : {d₁ d₂ : Desk} {p p₁ : List ℕ} {len₁ : ℕ} {h₁ h₂ : Watch} {t₁ t₂ : Told} {well₁ well₂ : Bool}
       → Blank clock slots words heads log changes scratch → 8192 < length p
-      → (len ≡ 0) × (ts ≡ replicate 16 freed) × (h ≡ fresh i) × (t.handed ≡ fresh o) × (t.taken ≡ fresh o)
+      → ts ≡ replicate 16 freed → (len ≡ 0) × (h ≡ fresh i) × (t.handed ≡ fresh o) × (t.taken ≡ fresh o)
       → Read (desk (tables clock slots words heads log changes ts) scratch) p len h t d₁ p₁ len₁ h₁ t₁ well₁
       → Ends d₁ p₁ len₁ t₁ well₁ d₂ t₂ well₂ → h₂ ≡ h₁ → Program i o d₂ h₂ t₂ well₂
   unfolding longest_line
-  program-is {d₁} {d₂} {p} {p₁} {len₁} {h₁} {h₂} {t₁} {t₂} {well₁} {well₂} z long s a b e = go (all-blank z s.1) s.0 s.2
-      (told_fresh t o s.3 s.4) a
+  program-is {d₁} {d₂} {p} {p₁} {len₁} {h₁} {h₂} {t₁} {t₂} {well₁} {well₂} z long f s a b e = go (all-blank z f) s.0 s.1
+      (told_fresh t o s.2 s.3) a
     where
       all-blank : Blank clock slots words heads log changes scratch → ts ≡ replicate 16 freed
           → desk (tables clock slots words heads log changes ts) scratch ≡ blank

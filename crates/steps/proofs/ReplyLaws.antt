@@ -14,9 +14,6 @@ use Rattle.text.specs.Parse.{parse}
 use Rattle.text.specs.Feed.{whole_line}
 use Rattle.lines.specs.Turn.{turn_of}
 use Rattle.lines.specs.Line.{LineOutcome, line_outcome, answer_line, written, line_of}
-use Rattle.lines.specs.declared.sessions.Left.{Left}
-use Rattle.lines.specs.Left.{leaves}
-use Rattle.lines.proofs.TurnLaws.{all-stand}
 use Rattle.lines.proofs.LineLaws.{line_read}
 use Rattle.steps.specs.Desk.{Desk, desk, turn_at, after_line, after_lines, answers_of}
 use Rattle.steps.specs.Answers.{Replied}
@@ -54,26 +51,8 @@ module _ (t t' : Tables) (s s' column column' out out' held : List ℕ) (n len :
       } in
       rw w r
 
-module _ (clock slots words heads log changes s out held : List ℕ) (ts : List Session) (l : Left) (len : ℕ) where
-  pub replied-none : (whole : Option ℕ) → whole ≡ None → len ≡ 0 → l.put ≡ false → l.anew ≡ false
-      → Replied (desk (tables clock slots words heads log changes ts) s) (whole_line whole held) out
-      (desk (tables clock slots words heads log changes (leaves ts l)) s) out len
-  unfolding whole_line after_lines answers_of
-  replied-none whole w n p z =
-      let t = tables clock slots words heads log changes in
-      let r : Replied (desk (t ts) s) [] out (desk (t (leaves ts l)) s) out len =
-      record { desk-is = ap (λ (us : List Session). desk (t us) s) (all-stand ts l p z); out-is = refl; len_is = n; short = omega arith } in
-      rw w r
-
--- ---- what a line left of the sessions, put in place
-
-pub left_by : (ts us : List Session) (l : Left) (a b : Bool) → l.anew ≡ a → l.put ≡ b
-    → us ≡ cond a (replicate 16 freed) (cond b (set ts l.place l.session) ts) → us ≡ leaves ts l
-unfolding leaves
-left_by ts us l a b p q e =
-    e ∙ sym (ap₂ (λ (c d : Bool). cond c (replicate 16 freed) (cond d (set ts l.place l.session) ts)) p q)
-
-pub replied-put : {d : Desk} {ls : List (List ℕ)} {out out' clock slots words heads log changes s : List ℕ} {us vs : List Session} {n : ℕ}
-    → Replied d ls out (desk (tables clock slots words heads log changes vs) s) out' n → us ≡ vs
-    → Replied d ls out (desk (tables clock slots words heads log changes us) s) out' n
-replied-put r e = rw e r
+pub replied-none : (t : Tables) (s out held : List ℕ) (whole : Option ℕ) → whole ≡ None → Replied (desk t s) (whole_line whole held) out (desk t s) out 0
+unfolding whole_line after_lines answers_of
+replied-none t s out held whole w =
+    let r : Replied (desk t s) [] out (desk t s) out 0 = record { desk-is = refl; out-is = refl; len_is = refl; short = omega arith } in
+    rw w r

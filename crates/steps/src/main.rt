@@ -75,7 +75,8 @@ fn whole(
             next,
         };
         let after = chunk::answer(
-            clock, slots, words, heads, log, changes, sessions, scratch, column, pending, out, bytes, before,
+            clock, slots, words, heads, log, changes, sessions, scratch, column, pending, out,
+            bytes, before,
         );
         stand.pending = after.pending;
         next = after.next;
@@ -170,8 +171,8 @@ fn finish(
         return Ok(());
     }
     whole(
-        stdout, stderr, clock, slots, words, heads, log, changes, sessions, scratch, column, pending, out,
-        b"\n", stand,
+        stdout, stderr, clock, slots, words, heads, log, changes, sessions, scratch, column,
+        pending, out, b"\n", stand,
     )
 }
 
@@ -205,14 +206,14 @@ fn program(
 {
     let mut stand = started(heard_at, told_at);
     let gone = run(
-        stdin, stdout, stderr, clock, slots, words, heads, log, changes, sessions, scratch, column, pending,
-        out, input, &mut stand,
+        stdin, stdout, stderr, clock, slots, words, heads, log, changes, sessions, scratch, column,
+        pending, out, input, &mut stand,
     );
     match gone {
         Ok(()) => {
             let done = finish(
-                stdout, stderr, clock, slots, words, heads, log, changes, sessions, scratch, column, pending,
-                out, &mut stand,
+                stdout, stderr, clock, slots, words, heads, log, changes, sessions, scratch,
+                column, pending, out, &mut stand,
             );
             (stand, done)
         }

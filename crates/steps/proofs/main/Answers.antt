@@ -1,4 +1,5 @@
 -- `main` meets its contract: every table starts from zeros.
+use Rattle.std.proofs.Common.{ap, replicate}
 use mathlib.Core.Path.{refl}
 use borrow.Author.Rules.{rules}
 use Rattle.steps.specs.Program.{zeros}
@@ -16,5 +17,6 @@ program-requires c = record {
     changes-is = refl;
     scratch-is = refl;
   };
+  free = ap (replicate 16) c.free_session.ensures;
   in_bounds = (search rules, search rules, search rules);
 }

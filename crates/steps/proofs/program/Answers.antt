@@ -6,10 +6,10 @@ use Rattle.steps.proofs.program.Goals as goal
 pub returns-in-Ok : goal.returns-in-Ok
 returns-in-Ok c =
     let e = c.started-stand.ensures in
-    program-is _ _ _ _ _ _ _ _ _ _ _ _ _ c.requires.blank c.requires.in_bounds.2 (e.0, e.1, e.2, e.3, e.4) c.in-Ok.ensures
+    program-is _ _ _ _ _ _ _ _ _ _ _ _ _ c.requires.blank c.requires.in_bounds.2 c.requires.free (e.0, e.1, e.2, e.3) c.in-Ok.ensures
     c.finish-done.ensures.ends c.finish-done.ensures.heard_value
 
 pub returns-in-Err : goal.returns-in-Err
 returns-in-Err c =
     let e = c.started-stand.ensures in
-    program-is _ _ _ _ _ _ _ _ _ _ _ _ _ c.requires.blank c.requires.in_bounds.2 (e.0, e.1, e.2, e.3, e.4) c.in-Err.ensures ends-failed refl
+    program-is _ _ _ _ _ _ _ _ _ _ _ _ _ c.requires.blank c.requires.in_bounds.2 c.requires.free (e.0, e.1, e.2, e.3) c.in-Err.ensures ends-failed refl

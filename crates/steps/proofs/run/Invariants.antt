@@ -7,7 +7,7 @@ use Rattle.steps.proofs.run.Given as goal
 
 abbrev pub invariant-loop : goal.invariant-loop
 invariant-loop l =
-    Read (desk (tables l.initial.clock l.initial.slots l.initial.words l.initial.heads l.initial.log l.initial.changes l.initial.stand.sessions.at) l.initial.scratch) l.initial.pending l.initial.stand.pending
+    Read (desk (tables l.initial.clock l.initial.slots l.initial.words l.initial.heads l.initial.log l.initial.changes l.initial.sessions) l.initial.scratch) l.initial.pending l.initial.stand.pending
     l.initial.stand.heard l.initial.stand.told
-    (desk (tables l.clock l.slots l.words l.heads l.log l.changes l.stand.sessions.at) l.scratch) l.pending l.stand.pending l.stand.heard l.stand.told
+    (desk (tables l.clock l.slots l.words l.heads l.log l.changes l.sessions) l.scratch) l.pending l.stand.pending l.stand.heard l.stand.told
     true

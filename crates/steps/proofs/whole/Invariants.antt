@@ -10,9 +10,9 @@ use Rattle.steps.proofs.whole.Given as goal
 
 abbrev pub invariant-loop-next : goal.invariant-loop-next
 invariant-loop-next l =
-    Along l.bytes (desk (tables l.initial.clock l.initial.slots l.initial.words l.initial.heads l.initial.log l.initial.changes l.initial.stand.sessions.at) l.initial.scratch) l.initial.pending l.initial.stand.pending
+    Along l.bytes (desk (tables l.initial.clock l.initial.slots l.initial.words l.initial.heads l.initial.log l.initial.changes l.initial.sessions) l.initial.scratch) l.initial.pending l.initial.stand.pending
     l.initial.stand.told
-    (desk (tables l.clock l.slots l.words l.heads l.log l.changes l.stand.sessions.at) l.scratch) l.pending l.stand.pending l.next
+    (desk (tables l.clock l.slots l.words l.heads l.log l.changes l.sessions) l.scratch) l.pending l.stand.pending l.next
     l.stand.told true
     × (l.stand.heard ≡ l.initial.stand.heard)
 

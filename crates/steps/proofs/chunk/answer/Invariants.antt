@@ -1,19 +1,17 @@
 -- `chunk::answer` meets its contract: at the loop's head, the lines answered so far are the first of those that were left.
-use Prim.Native.Nat.{◌-◌}
-use lib.ListN.{length}
+use Rattle.std.proofs.Common.{◌-◌, length}
 use Rattle.tables.specs.Cells.{tables}
 use Rattle.steps.specs.Desk.{desk}
 use Rattle.steps.specs.Answers.{spot}
-use Rattle.steps.proofs.KeptLaws.{Kept}
 use Rattle.steps.proofs.ChunkLaws.{Going}
 use Rattle.steps.proofs.chunk.answer.Given as goal
 
 abbrev pub invariant-loop-more : goal.invariant-loop-more
-invariant-loop-more l = Kept l.initial.clock l.initial.slots l.initial.words l.initial.heads l.initial.log l.initial.changes l.initial.scratch l.initial.column l.initial.pending l.initial.out
-    l.clock l.slots l.words l.heads l.log l.changes l.scratch l.column l.pending l.out
-    × Going l.bytes
-    (spot (desk (tables l.initial.clock l.initial.slots l.initial.words l.initial.heads l.initial.log l.initial.changes l.initial.all.at) l.initial.scratch) l.initial.pending l.initial.len l.initial.out l.initial.filled l.initial.at)
-    (spot (desk (tables l.clock l.slots l.words l.heads l.log l.changes l.all.at) l.scratch) l.pending l.len l.out l.filled l.at) l.more
+invariant-loop-more l =
+    Going l.bytes
+    (spot (desk (tables l.initial.clock l.initial.slots l.initial.words l.initial.heads l.initial.log l.initial.changes l.initial.sessions)
+    l.initial.scratch) l.initial.pending l.initial.len l.initial.out l.initial.filled l.initial.at)
+    (spot (desk (tables l.clock l.slots l.words l.heads l.log l.changes l.sessions) l.scratch) l.pending l.len l.out l.filled l.at) l.more
 
 abbrev pub decreases-loop-more : goal.decreases-loop-more
 decreases-loop-more l = length l.bytes - l.at
