@@ -20,14 +20,14 @@ use Rattle.lent.specs.declared.seats.Seat.{Seat}
 use Rattle.outcomes.specs.declared.answers.Begun.{Begun}
 use Rattle.outcomes.specs.declared.answers.Begun.TheVariants.{Opened, Stands}
 use Rattle.outcomes.specs.declared.answers.Answer.{Answer}
-use Rattle.outcomes.specs.declared.answers.Answer.TheVariants.{Count, At}
+use Rattle.outcomes.specs.declared.answers.Answer.TheVariants.{Count}
 use Rattle.outcomes.specs.Said.{numbers}
 use Rattle.outcomes.specs.Outcome.{Outcome, outcome}
 use Rattle.outcomes.specs.Calls.{own, reseated, beginning, begin_of, abort_of}
 use Rattle.outcomes.specs.Seats.{seat_of, begun_answer, opening, freeing, Serves}
 use Rattle.outcomes.specs.Enter.{placed_by, opened_by}
 use Rattle.outcomes.proofs.Entered.{bare, placed-passed, placed-goes, opened-goes, opened-passed, own-seat}
-use Rattle.outcomes.proofs.Serving.{idle-opening, idle-standing, idle-freeing, idle-left, opened-left, freed-left, accepted-outcome, placed-refused}
+use Rattle.outcomes.proofs.Serving.{idle-opening, idle-freeing, opened-left, freed-left, accepted-outcome, placed-refused}
 use Rattle.outcomes.proofs.Serving.{opened-refused}
 
 module _ (clock slots words heads log changes : List ℕ) (x : Seat) (n : ℕ) where

@@ -1,7 +1,7 @@
 -- Update, delete and insert: what each end of their parts and of their cores comes to.
 use Rattle.std.specs.Prelude as kit
 use Rattle.std.specs.Prelude.{Result, Ok, Err}
-use mathlib.Core.Path.{◌≡◌, sym, ◌∙◌}
+use mathlib.Core.Path.{◌≡◌, refl, sym, ◌∙◌}
 use mathlib.Core.Bool.{true, false, and-true, and-false}
 use mathlib.Core.Option.{Option}
 use mathlib.Core.List.{List, []}
@@ -38,19 +38,19 @@ module _ (clock slots words heads log changes : List ℕ) (x : Session) (row spo
   abbrev read : Option ℕ
   read = read_cells slots words heads log changes (values_in clock) x.start.0 row
 
-  pub stands-listed : (n : ℕ) (held : kit.Option Value) → n ≡ x.count → spot < n → standing_of held ≡ target_of (get_or x.to spot 0)
+  pub stands-listed : (held : kit.Option Value) → spot < x.count → standing_of held ≡ target_of (get_or x.to spot 0)
       → standing_of held ≡ standing (target (entries x) row) read
-  stands-listed n held m l e = rw (e, s.spot_is, listed-target x row s.row_low (omega (arith, s.spot_is)))
+  stands-listed held l e = rw (e, s.spot_is, listed-target x row s.row_low (omega (arith, s.spot_is)))
 
   pub stands-ready : (c : Clock) → c ≡ clock_in clock → ReadReady slots words heads log changes c.values.0 x.start.0
   unfolding clock_in
   stands-ready c k = rw k s.readable
 
-  pub stands_read : (n : ℕ) (c : Clock) (held : kit.Option Value) → n ≡ x.count → n ≤ spot → c ≡ clock_in clock
+  pub stands_read : (c : Clock) (held : kit.Option Value) → x.count ≤ spot → c ≡ clock_in clock
       → standing_of held ≡ read_cells slots words heads log changes c.values.0 x.start.0 row
       → standing_of held ≡ standing (target (entries x) row) read
   unfolding clock_in
-  stands_read n c held m l k e = rw (e, k, unlisted-target x row s.row_low (omega (arith, s.spot_is)))
+  stands_read c held l k e = rw (e, k, unlisted-target x row s.row_low (omega (arith, s.spot_is)))
 
 -- ---- a list that is full
 
@@ -64,7 +64,6 @@ not_full x h = lt-leb 32 (length (entries x)) (omega (arith, length-entries x))
 
 -- ---- an entry more
 
--- what is left of an open session, as a part without tables comes to it
 module _ (x : Session) (at to : ℕ) where
   abbrev Appends : Result Session Refusal → Type 0
   Appends d = SettlesAny x (relisting d) (list_answer d) (λ t n. append_of t n at to)
@@ -73,28 +72,27 @@ module _ (x : Session) (at to : ℕ) where
   unfolding append_of unless
   append-full l n t o = sym (rw (open-list t n x o, full x l))
 
-  pub append-more : (i : ℕ) (y : Session) → x.count < 32 → i ≡ x.count → y ≡ with_entry x i at to (x.count + 1) → Appends (Ok y)
+  pub append-more : (y : Session) → x.count < 32 → y ≡ with_entry x x.count at to (x.count + 1) → Appends (Ok y)
   unfolding append_of with_entry unless
-  append-more i y l m w n t o =
+  append-more y l w n t o =
       relisted-left t [] n (Ok y) y o.place-low refl
-      ∙ rw (w, m, open-list t n x o, not_full x l, o.own-there, le-ltb x.count x.count (omega arith))
+      ∙ rw (w, open-list t n x o, not_full x l, o.own-there, le-ltb x.count x.count (omega arith))
 
 -- ---- a row's target
 
-module _ (x : Session) (row to : ℕ) (d : Result Session Refusal) (low : row < 65535) (spot : ℕ) (p : spot ≡ spot_of x row) (k : ℕ)
-    (m : k ≡ x.count) (at : ℕ) (a : at ≡ row) where
+module _ (x : Session) (row to : ℕ) (low : row < 65535) (spot : ℕ) (p : spot ≡ spot_of x row) (at : ℕ) (a : at ≡ row) where
   abbrev Puts : Result Session Refusal → Type 0
-  Puts e = SettlesAny x (relisting e) (list_answer e) (λ t n. target_put t n row to)
+  Puts d = SettlesAny x (relisting d) (list_answer d) (λ t n. target_put t n row to)
 
-  pub target-there : (y : Session) → spot < k → y ≡ with_entry x spot at to x.count → Puts (Ok y)
+  pub target-there : (y : Session) → spot < x.count → y ≡ with_entry x spot at to x.count → Puts (Ok y)
   unfolding target_put with_entry unless
   target-there y l w n t o =
       let here : spot_of x row < x.count = omega arith in
       relisted-left t [] n (Ok y) y o.place-low refl
       ∙ rw (w, p, a, open-list t n x o, listed-lists x row low here, and-false, o.own-there, lt-ltb (spot_of x row) x.count here)
 
-  pub target-new : k ≤ spot → Appends x at to d → Puts d
+  pub target-new : (d : Result Session Refusal) → x.count ≤ spot → Appends x at to d → Puts d
   unfolding target_put append_of
-  target-new l f n t o =
+  target-new d l f n t o =
       let off : x.count ≤ spot_of x row = omega arith in
       f n t o ∙ rw (a, open-list t n x o, unlisted-lists x row low off, and-true, o.own-there, unlisted-spot x row low off)

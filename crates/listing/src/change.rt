@@ -31,11 +31,10 @@ fn standing(t: NumberTables, s: Session, row: Row, spot: usize) -> Option<Value>
 fn appended(s: Session, at: u16, to: u8) -> Result<Session, Refusal>
     ensures { SettlesAny s (relisting result) (list_answer result) (λ t n. append_of t n at to) }
 {
-    let count = s.count;
-    if tables::MAX_ENTRIES <= count {
+    if tables::MAX_ENTRIES <= s.count {
         return Err(Refusal::ListFull);
     }
-    Ok(tables::with_entry(s, count as usize, at, to, count + 1))
+    Ok(tables::with_entry(s, s.count as usize, at, to, s.count + 1))
 }
 
 // The session with the row's target: in its entry where it is listed, otherwise in an entry more.
@@ -44,9 +43,8 @@ fn listed(s: Session, row: Row, to: u8, spot: usize) -> Result<Session, Refusal>
     ensures { SettlesAny s (relisting result) (list_answer result) (λ t n. target_put t n row.0 to) }
 {
     let at = row.0 as u16;
-    let count = s.count;
-    if spot < count as usize {
-        return Ok(tables::with_entry(s, spot, at, to, count));
+    if spot < s.count as usize {
+        return Ok(tables::with_entry(s, spot, at, to, s.count));
     }
     appended(s, at, to)
 }
@@ -60,14 +58,20 @@ fn change_row(t: NumberTables, s: Session, row: Row, to: u8) -> Result<Session, 
         return Err(Refusal::NoRow);
     }
     let spot = outcomes::spot_of(s, row);
-    let Some(_) = standing(t, s, row, spot) else {
+    if standing(t, s, row, spot).is_none() {
         return Err(Refusal::RowAbsent);
-    };
+    }
     listed(s, row, to, spot)
 }
 
 // Update: the row's target is the value.
-pub fn update_in(t: NumberTables, seat: Seat, n: u64, row: Row, v: Value) -> Result<Session, Refusal>
+pub fn update_in(
+    t: NumberTables,
+    seat: Seat,
+    n: u64,
+    row: Row,
+    v: Value,
+) -> Result<Session, Refusal>
     ensures { Serves (shown t.entry) (shown t.entry) [] seat n (relisting result n) (list_answer result)
         (λ all. update_of all n row.0 v.0) }
 {

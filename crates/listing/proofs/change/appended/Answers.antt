@@ -2,8 +2,8 @@
 use Rattle.listing.proofs.ChangeLaws.{append-full, append-more}
 use Rattle.listing.proofs.change.appended.Goals as goal
 
-pub returns-then-count-ge-MAX_ENTRIES : goal.returns-then-count-ge-MAX_ENTRIES
-returns-then-count-ge-MAX_ENTRIES c = search append-full
+pub returns-then-s-ge-MAX_ENTRIES : goal.returns-then-s-ge-MAX_ENTRIES
+returns-then-s-ge-MAX_ENTRIES c = search append-full
 
 pub returns : goal.returns
 returns c = search append-more

@@ -2,14 +2,14 @@
 use Rattle.listing.proofs.ChangeCores.{change-no-row, change-stands, change-absent, change-on}
 use Rattle.listing.proofs.change.change_row.Goals as goal
 
-pub returns-then-rows-row : goal.returns-then-rows-row
-returns-then-rows-row c = search change-no-row
+pub returns-then-s-row : goal.returns-then-s-row
+returns-then-s-row c = search change-no-row
 
-pub standing-held-requires : goal.standing-held-requires
-standing-held-requires c = search change-stands
+pub standing-requires : goal.standing-requires
+standing-requires c = search change-stands
 
-pub returns-in_default : goal.returns-in_default
-returns-in_default c = search change-absent
+pub returns-then-is_none : goal.returns-then-is_none
+returns-then-is_none c = search change-absent
 
 pub returns : goal.returns
 returns c = search change-on

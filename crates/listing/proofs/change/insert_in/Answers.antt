@@ -1,12 +1,15 @@
 -- `change::insert_in` meets its contract: refused by the shared tests, or the rest of the call decides.
+use Rattle.std.proofs.lemmas.Result.{err_from_is_err_and}
 use Rattle.listing.proofs.ChangeCores.{value-byte, insert-refused, insert-on}
 use Rattle.listing.proofs.change.insert_in.Goals as goal
 
+pub returns-in_err-valued : goal.returns-in_err-valued
+returns-in_err-valued c =
+    let p = err_from_is_err_and c.from_residual.result c.from_residual.ensures.1 in
+    rw (p.1, p.2) (insert-refused _ _ _ _ _ _ c.args.seat c.args.n c.args.v.0 _ c.in_err-valued.ensures)
+
 pub overflow_cast-v : goal.overflow_cast-v
-overflow_cast-v c = search value-byte
+overflow_cast-v c = search (value-byte, c.in_ok-valued.ensures)
 
-pub returns-in-No : goal.returns-in-No
-returns-in-No c = search insert-refused
-
-pub returns-in-Passed : goal.returns-in-Passed
-returns-in-Passed c = search insert-on
+pub returns : goal.returns
+returns c = search (insert-on, c.in_ok-valued.ensures)
