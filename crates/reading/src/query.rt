@@ -35,6 +35,7 @@ pub fn query_in(
 }
 
 // The words that a query answered: the slot's own, or the scratch's first 32; an empty part where they were not lent.
+#[tactic(auto, unfolding(outcomes::specs::Query::picked_from))]
 pub fn picked<'a>(words: &'a [u64], scratch: &'a [u64], place: Place) -> &'a [u64]
     ensures { result.now ≡ picked_from words.now scratch.now (place_of place) }
 {
