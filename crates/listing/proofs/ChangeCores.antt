@@ -35,7 +35,7 @@ use Rattle.outcomes.specs.Opened.{Usable, OpenIn, SettlesAny}
 use Rattle.listing.specs.Change.{append_of, target_put, change_of, ChangesRow, Stands}
 use Rattle.outcomes.proofs.Entered.{bare, opened-goes, opened-shows, valued-passed, valued-goes, valued-shows}
 use Rattle.outcomes.proofs.Serving.{idle-relisting, opened-refused, valued-refused}
-use Rattle.outcomes.proofs.OpenLaws.{open-start, open-rows, open-list, open-facts}
+use Rattle.outcomes.proofs.OpenLaws.{opened-usable, open-start, open-rows, open-list, open-facts}
 
 -- what is absent is no value
 absent-is : (held : kit.Option Value) → is_absent (standing_of held) ≡ not (is_some held)
@@ -187,3 +187,9 @@ module _ (clock slots words heads log changes : List ℕ) where
         let s = opened-shows t n x e (delete n row) rest refl q in
         f n ts (record { room = g.room; good = g.good; place-low = s.place-low; own-there = s.own-there; live-one = s.live-one })
         ∙ rw g.rest-decides
+
+pub ruleset updates = (update-refused, valued-usable, value-byte, update-on)
+
+pub ruleset inserts = (insert-refused, value-byte, insert-on)
+
+pub ruleset deletes = (delete-refused, opened-usable, delete-on)

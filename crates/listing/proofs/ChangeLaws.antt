@@ -96,3 +96,7 @@ module _ (x : Session) (row to : ℕ) (low : row < 65535) (spot : ℕ) (p : spot
   target-new d l f n t o =
       let off : x.count ≤ spot_of x row = omega arith in
       f n t o ∙ rw (a, open-list t n x o, unlisted-lists x row low off, and-true, o.own-there, unlisted-spot x row low off)
+
+pub ruleset appends = (append-full, append-more)
+
+pub ruleset puts = (target-there, target-new)

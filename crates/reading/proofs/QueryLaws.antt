@@ -115,3 +115,5 @@ module _ (clock slots words heads log changes scratch : List ℕ) (x : Seat) (n 
       query-copied z ts e =
           let some-flipped = ne_eqb (flips_seen (lent ts) start v) 0 (λ y. z (flips-are ts e ∙ y)) in
           rw (accepted ts e, scratch-is ts e, flips-are ts e, some-flipped)
+
+pub ruleset queries = (query-refused, query-short)

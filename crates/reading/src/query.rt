@@ -11,6 +11,7 @@ use outcomes::{Answer, Place};
 use tables::{NumberTables, Refusal, Row, Value};
 
 // Query: the slot's own words where no row is flipped, the scratch's otherwise.
+#[tactic(auto, using(crate::proofs::QueryLaws::queries))]
 pub fn query_in(
     t: NumberTables,
     scratch: &mut [u64],
@@ -47,6 +48,7 @@ pub fn picked<'a>(words: &'a [u64], scratch: &'a [u64], place: Place) -> &'a [u6
 }
 
 // Read: the row's value at the session's start, or that it is absent.
+#[tactic(auto, using(crate::proofs::ReadLaws::reads))]
 pub fn read_in(t: NumberTables, seat: Seat, n: u64, row: Row) -> Result<Answer, Refusal>
     ensures { Serves (shown t.entry) (shown t.entry) [] seat n untouched result (λ all. read_of all n row.0) }
 {
