@@ -188,8 +188,11 @@ module _ (clock slots words heads log changes : List ℕ) where
         f n ts (record { room = g.room; good = g.good; place-low = s.place-low; own-there = s.own-there; live-one = s.live-one })
         ∙ rw g.rest-decides
 
+-- what update stands on
 pub ruleset updates = (update-refused, valued-usable, value-byte, update-on)
 
+-- insert
 pub ruleset inserts = (insert-refused, value-byte, insert-on)
 
+-- and delete
 pub ruleset deletes = (delete-refused, opened-usable, delete-on)

@@ -97,6 +97,8 @@ module _ (x : Session) (row to : ℕ) (low : row < 65535) (spot : ℕ) (p : spot
       let off : x.count ≤ spot_of x row = omega arith in
       f n t o ∙ rw (a, open-list t n x o, unlisted-lists x row low off, and-true, o.own-there, unlisted-spot x row low off)
 
+-- what an entry more stands on
 pub ruleset appends = (append-full, append-more)
 
+-- and a row's target
 pub ruleset puts = (target-there, target-new)
