@@ -94,3 +94,9 @@ module _ (clock slots words heads log changes : List ℕ) (x : Seat) (n : ℕ) w
       (opened-passed clock slots words heads log changes x n q).place-low refl
       ∙ rw (own-seat t n x e) (sym (accepted-outcome t [] (abort n) (dropped t)
       (opened-goes t n x e (abort n) [] refl q).rest-decides))
+
+-- what begin stands on
+pub ruleset begins = (begin-refused, begin-clock, begin-again, begin-new)
+
+-- and abort
+pub ruleset aborts = (abort_refused, abort-frees)

@@ -1,8 +1,7 @@
 -- Update, delete and insert on the lent tables: what each end of `change_row` and of the three cores comes to.
-use Rattle.std.specs.Prelude as kit
-use Rattle.std.specs.Prelude.{Result, Ok, Err, Some, None, is_some}
+use Rattle.std.specs.Prelude.{Result, Err}
 use mathlib.Core.Path.{◌≡◌, refl, sym, ◌∙◌}
-use mathlib.Core.Bool.{false, not}
+use mathlib.Core.Bool.{false}
 use mathlib.Core.Option.{Option, none, some}
 use mathlib.Core.List.{List, [], ◌∷◌}
 use Prim.Native.Nat.{ℕ, ◌≤◌, ◌<◌}
@@ -14,8 +13,7 @@ use mir.Val.{Fits}
 use Rattle.rules.specs.State.{session, rows_of}
 use Rattle.rules.specs.Lists.{target, standing}
 use Rattle.rules.specs.Calls.{update, delete, insert}
-use Rattle.rules.specs.Refusals.{Test, tests, is_absent, no_row, row_absent, list_full_for, list_full, standing_in}
-use Rattle.tables.specs.declared.counts.Value.{Value}
+use Rattle.rules.specs.Refusals.{Test, tests, no_row, row_absent, list_full_for, list_full, standing_in}
 use Rattle.tables.specs.declared.refusal.Refusal.{Refusal}
 use Rattle.tables.specs.declared.refusal.Refusal.TheVariants.{NoRow, RowAbsent}
 use Rattle.tables.specs.Refusals.{number_of}
@@ -23,7 +21,7 @@ use Rattle.tables.specs.Cells.{Tables, tables, values_in}
 use Rattle.tables.specs.Meaning.{entries, meaning}
 use Rattle.tables.specs.declared.session.Session as cells
 use Rattle.tables.proofs.Facts.{room-facts, parts, clock-limits}
-use Rattle.history.specs.Read.{standing_of, read_cells}
+use Rattle.history.specs.Read.{read_cells}
 use Rattle.history.proofs.Meets.{read_meets}
 use Rattle.history.proofs.Ready.{read-ready}
 use Rattle.lent.specs.declared.seats.Seat.{Seat}
@@ -35,12 +33,7 @@ use Rattle.outcomes.specs.Opened.{Usable, OpenIn, SettlesAny}
 use Rattle.listing.specs.Change.{append_of, target_put, change_of, ChangesRow, Stands}
 use Rattle.outcomes.proofs.Entered.{bare, opened-goes, opened-shows, valued-passed, valued-goes, valued-shows}
 use Rattle.outcomes.proofs.Serving.{idle-relisting, opened-refused, valued-refused}
-use Rattle.outcomes.proofs.OpenLaws.{open-start, open-rows, open-list, open-facts}
-
--- what is absent is no value
-absent-is : (held : kit.Option Value) → is_absent (standing_of held) ≡ not (is_some held)
-absent-is None = refl
-absent-is (Some v) = refl
+use Rattle.outcomes.proofs.OpenLaws.{opened-usable, open-start, open-rows, open-list, open-facts}
 
 module _ (clock slots words heads log changes : List ℕ) where
   abbrev lent : List cells.Session → Tables
@@ -186,3 +179,12 @@ module _ (clock slots words heads log changes : List ℕ) where
         let s = opened-shows t n x e (delete n row) rest refl q in
         f n ts (record { room = g.room; good = g.good; place-low = s.place-low; own-there = s.own-there; live-one = s.live-one })
         ∙ rw g.rest-decides
+
+-- what update stands on
+pub ruleset updates = (update-refused, valued-usable, value-byte, update-on)
+
+-- insert
+pub ruleset inserts = (insert-refused, value-byte, insert-on)
+
+-- and delete
+pub ruleset deletes = (delete-refused, opened-usable, delete-on)

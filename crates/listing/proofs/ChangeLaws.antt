@@ -38,19 +38,19 @@ module _ (clock slots words heads log changes : List ℕ) (x : Session) (row spo
   abbrev read : Option ℕ
   read = read_cells slots words heads log changes (values_in clock) x.start.0 row
 
-  pub stands-listed : (n : ℕ) (held : kit.Option Value) → n ≡ x.count → spot < n → standing_of held ≡ target_of (get_or x.to spot 0)
+  pub stands-listed : (held : kit.Option Value) → spot < x.count → standing_of held ≡ target_of (get_or x.to spot 0)
       → standing_of held ≡ standing (target (entries x) row) read
-  stands-listed n held m l e = rw (e, s.spot_is, listed-target x row s.row_low (omega (arith, s.spot_is)))
+  stands-listed held l e = rw (e, s.spot_is, listed-target x row s.row_low (omega (arith, s.spot_is)))
 
   pub stands-ready : (c : Clock) → c ≡ clock_in clock → ReadReady slots words heads log changes c.values.0 x.start.0
   unfolding clock_in
   stands-ready c k = rw k s.readable
 
-  pub stands_read : (n : ℕ) (c : Clock) (held : kit.Option Value) → n ≡ x.count → n ≤ spot → c ≡ clock_in clock
+  pub stands_read : (c : Clock) (held : kit.Option Value) → x.count ≤ spot → c ≡ clock_in clock
       → standing_of held ≡ read_cells slots words heads log changes c.values.0 x.start.0 row
       → standing_of held ≡ standing (target (entries x) row) read
   unfolding clock_in
-  stands_read n c held m l k e = rw (e, k, unlisted-target x row s.row_low (omega (arith, s.spot_is)))
+  stands_read c held l k e = rw (e, k, unlisted-target x row s.row_low (omega (arith, s.spot_is)))
 
 -- ---- a list that is full
 
@@ -72,11 +72,11 @@ module _ (x : Session) (at to : ℕ) where
   unfolding append_of unless
   append-full l n t o = sym (rw (open-list t n x o, full x l))
 
-  pub append-more : (i : ℕ) (y : Session) → x.count < 32 → i ≡ x.count → y ≡ with_entry x i at to (x.count + 1) → Appends (Ok y)
+  pub append-more : (y : Session) → x.count < 32 → y ≡ with_entry x x.count at to (x.count + 1) → Appends (Ok y)
   unfolding append_of with_entry unless
-  append-more i y l m w n t o =
+  append-more y l w n t o =
       relisted-left t [] n (Ok y) y o.place-low refl
-      ∙ rw (w, m, open-list t n x o, not_full x l, o.own-there, le-ltb x.count x.count (omega arith))
+      ∙ rw (w, open-list t n x o, not_full x l, o.own-there, le-ltb x.count x.count (omega arith))
 
 -- ---- a row's target
 
@@ -96,3 +96,9 @@ module _ (x : Session) (row to : ℕ) (low : row < 65535) (spot : ℕ) (p : spot
   target-new d l f n t o =
       let off : x.count ≤ spot_of x row = omega arith in
       f n t o ∙ rw (a, open-list t n x o, unlisted-lists x row low off, and-true, o.own-there, unlisted-spot x row low off)
+
+-- what an entry more stands on
+pub ruleset appends = (append-full, append-more)
+
+-- and a row's target
+pub ruleset puts = (target-there, target-new)

@@ -9,6 +9,7 @@ use outcomes::{Answer, Begun};
 use tables::{NumberTables, Refusal};
 
 // Begin: the start that an open session has already, or the current one.
+#[tactic(auto, using(crate::proofs::BeginLaws::begins))]
 pub fn begin_in(t: NumberTables, seat: Seat, n: u64) -> Result<Begun, Refusal>
     ensures { Serves (shown t.entry) (shown t.entry) [] seat n (opening result n) (begun_answer result) (λ all. begin_of all n) }
 {
@@ -22,6 +23,7 @@ pub fn begin_in(t: NumberTables, seat: Seat, n: u64) -> Result<Begun, Refusal>
 }
 
 // Abort: the length of the list dropped.
+#[tactic(auto, using(crate::proofs::BeginLaws::aborts))]
 pub fn abort_in(t: NumberTables, seat: Seat, n: u64) -> Result<Answer, Refusal>
     ensures { Serves (shown t.entry) (shown t.entry) [] seat n (freeing result n) result (λ all. abort_of all n) }
 {

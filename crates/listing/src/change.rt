@@ -28,6 +28,7 @@ fn standing(t: NumberTables, s: Session, row: Row, spot: usize) -> Option<Value>
 }
 
 // The session with an entry more.
+#[tactic(auto, using(crate::proofs::ChangeLaws::appends))]
 fn appended(s: Session, at: u16, to: u8) -> Result<Session, Refusal>
     ensures { SettlesAny s (relisting result) (list_answer result) (λ t n. append_of t n at to) }
 {
@@ -38,6 +39,7 @@ fn appended(s: Session, at: u16, to: u8) -> Result<Session, Refusal>
 }
 
 // The session with the row's target: in its entry where it is listed, otherwise in an entry more.
+#[tactic(auto, using(crate::proofs::ChangeLaws::puts))]
 fn listed(s: Session, row: Row, to: u8, spot: usize) -> Result<Session, Refusal>
     requires { (s.count ≤ 32) × (row.0 < 65535) × (spot ≡ spot_of s row.0) }
     ensures { SettlesAny s (relisting result) (list_answer result) (λ t n. target_put t n row.0 to) }
@@ -65,7 +67,14 @@ fn change_row(t: NumberTables, s: Session, row: Row, to: u8) -> Result<Session, 
 }
 
 // Update: the row's target is the value.
-pub fn update_in(t: NumberTables, seat: Seat, n: u64, row: Row, v: Value) -> Result<Session, Refusal>
+#[tactic(auto, using(crate::proofs::ChangeCores::updates))]
+pub fn update_in(
+    t: NumberTables,
+    seat: Seat,
+    n: u64,
+    row: Row,
+    v: Value,
+) -> Result<Session, Refusal>
     ensures { Serves (shown t.entry) (shown t.entry) [] seat n (relisting result n) (list_answer result)
         (λ all. update_of all n row.0 v.0) }
 {
@@ -74,6 +83,7 @@ pub fn update_in(t: NumberTables, seat: Seat, n: u64, row: Row, v: Value) -> Res
 }
 
 // Delete: the row's target is absent.
+#[tactic(auto, using(crate::proofs::ChangeCores::deletes))]
 pub fn delete_in(t: NumberTables, seat: Seat, n: u64, row: Row) -> Result<Session, Refusal>
     ensures { Serves (shown t.entry) (shown t.entry) [] seat n (relisting result n) (list_answer result)
         (λ all. delete_of all n row.0) }
@@ -83,6 +93,7 @@ pub fn delete_in(t: NumberTables, seat: Seat, n: u64, row: Row) -> Result<Sessio
 }
 
 // Insert: an entry more, with the value.
+#[tactic(auto, using(crate::proofs::ChangeCores::inserts))]
 pub fn insert_in(t: NumberTables, seat: Seat, n: u64, v: Value) -> Result<Session, Refusal>
     ensures { Serves (shown t.entry) (shown t.entry) [] seat n (relisting result n) (list_answer result)
         (λ all. insert_of all n v.0) }

@@ -1,5 +1,4 @@
 -- The laws of query, span and read that belong to no one function.
 pub mod ReadLaws
 pub mod QueryLaws
-pub mod PickLaws
 pub mod SpanLaws

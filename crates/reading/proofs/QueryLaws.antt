@@ -49,7 +49,8 @@ module _ (clock slots words heads log changes scratch : List ℕ) (x : Seat) (n 
   abbrev done : Tables → Outcome
   done t = query.asked t scratch (start_of (session (meaning t) n)) v threshold
 
-  pub query-refused : (why : Refusal) → some (number_of why) ≡ valued_by clock slots words heads log changes x n v → Answers scratch (Err why)
+  pub query-refused : (why : Refusal) → some (number_of why) ≡ valued_by clock slots words heads log changes x n v
+      → Answers scratch (Err why)
   unfolding query_of tests
   query-refused why q =
       valued-refused clock slots words heads log changes (scratch ∷ []) x n (query n v threshold (length scratch)) done why untouched
@@ -115,3 +116,6 @@ module _ (clock slots words heads log changes scratch : List ℕ) (x : Seat) (n 
       query-copied z ts e =
           let some-flipped = ne_eqb (flips_seen (lent ts) start v) 0 (λ y. z (flips-are ts e ∙ y)) in
           rw (accepted ts e, scratch-is ts e, flips-are ts e, some-flipped)
+
+-- what query stands on where it is refused
+pub ruleset queries = (query-refused, query-short)

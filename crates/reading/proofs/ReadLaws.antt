@@ -92,3 +92,6 @@ module _ (clock slots words heads log changes : List ℕ) (x : Seat) (n row : �
         let s = shown ts e in
         rw (z, p, read_meets t (went ts e).good x.session.start.0 s.facts.start-old row, ← s.start-means)
         (sym (accepted-outcome t [] (read n row) (seen t) (row-decides ts e ∙ rw (lt-leb x.session.rows.0 row l))))
+
+-- what read stands on
+pub ruleset reads = (read-refused, read-clock, read-no-row, read-reads)

@@ -149,3 +149,6 @@ module _ (clock slots words heads log changes list : List ℕ) (x : Seat) (n a b
               rw (f, rows_are ts e, j, count-is ts e, ← (shown ts e).start-means)
               (sym (accepted-outcome (lent ts) (list ∷ []) (span n a b (length list)) (done (lent ts))
               (length-decides ts e ∙ rw (le-ltb (length list) m s))))
+
+-- what span stands on up to its list
+pub ruleset spans = (span-refused, span-clock, span-no-value, span-backward, count_low)

@@ -11,6 +11,7 @@ use outcomes::{Answer, Place};
 use tables::{NumberTables, Refusal, Row, Value};
 
 // Query: the slot's own words where no row is flipped, the scratch's otherwise.
+#[tactic(auto, using(crate::proofs::QueryLaws::queries))]
 pub fn query_in(
     t: NumberTables,
     scratch: &mut [u64],
@@ -35,6 +36,7 @@ pub fn query_in(
 }
 
 // The words that a query answered: the slot's own, or the scratch's first 32; an empty part where they were not lent.
+#[tactic(auto, unfolding(outcomes::specs::Query::picked_from))]
 pub fn picked<'a>(words: &'a [u64], scratch: &'a [u64], place: Place) -> &'a [u64]
     ensures { result.now ≡ picked_from words.now scratch.now (place_of place) }
 {
@@ -46,6 +48,7 @@ pub fn picked<'a>(words: &'a [u64], scratch: &'a [u64], place: Place) -> &'a [u6
 }
 
 // Read: the row's value at the session's start, or that it is absent.
+#[tactic(auto, using(crate::proofs::ReadLaws::reads))]
 pub fn read_in(t: NumberTables, seat: Seat, n: u64, row: Row) -> Result<Answer, Refusal>
     ensures { Serves (shown t.entry) (shown t.entry) [] seat n untouched result (λ all. read_of all n row.0) }
 {

@@ -9,6 +9,7 @@ use outcomes::Answer;
 use tables::{NumberTables, Refusal, Value};
 
 // How many rows hold a value from `first` to `last` for the session: they stand in the list's first cells, ascending, each once.
+#[tactic(auto, using(crate::proofs::SpanLaws::spans))]
 pub fn span_in(
     t: NumberTables,
     list: &mut [u16],
