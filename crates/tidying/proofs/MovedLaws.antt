@@ -11,7 +11,7 @@ use lib.ListN.{length, get_or, length-map, length-append}
 use Rattle.bits.specs.Bit.{clear_bit}
 use Rattle.bits.specs.Rows.{count_below, rows_below, count_of, rows_of, word_rows}
 use Rattle.bits.proofs.RowLaws.{length-rows, count-split}
-use Rattle.bits.proofs.WordRows.{lowest-lt, word_none, word_first, word-all}
+use Rattle.bits.proofs.WordRows.{word_none, word_first, word-all}
 use Rattle.bits.specs.Words.{bit_at}
 use Rattle.rules.specs.State.{Change}
 use Rattle.tables.specs.Stores.{put_change}
@@ -75,47 +75,37 @@ pub record WordPut (to v : ℕ) (l l' : List ℕ) (start p w base x : ℕ) : Typ
 abbrev pub next : ℕ → ℕ
 next x = count_trailing_zeros 64 x
 
-pub word-begun : (to v : ℕ) (l : List ℕ) (start w base : ℕ) → w < 2 ^ 64 → WordPut to v l l start start w base w
-word-begun to v l start w base h = record { left = refl; place = refl; kept = refl; room = refl; after = omega arith; low = h }
-
 module _ (to v : ℕ) (l l' : List ℕ) (start p w base x : ℕ) (f : WordPut to v l l' start p w base x) where
-  module _ (some : x ≡ 0 → ⊥) where
-    pub next-lt : next x < 64
-    next-lt = lowest-lt 64 x f.low some
+  module _ (some : x ≡ 0 → ⊥) (g : Puttable l start to v (length (word_rows w base))) where
+    pub next-puttable : Puttable l' p to v 1
+    next-puttable = record {
+      changes-room = omega (arith, f.room, g.changes-room);
+      old-before = omega (arith, f.after, g.old-before);
+      places-low = omega (arith, f.place, ap length (word_first x base f.low some), g.places-low);
+      value_low = g.value_low;
+    }
 
-    pub word-less : length (word_rows (bit_and x (x - 1)) base) < length (word_rows x base)
-    word-less = omega (arith, ap length (word_first x base f.low some))
-
-    module _ (g : Puttable l start to v (length (word_rows w base))) where
-      pub next-puttable : Puttable l' p to v 1
-      next-puttable = record {
-        changes-room = omega (arith, f.room, g.changes-room);
-        old-before = omega (arith, f.after, g.old-before);
-        places-low = omega (arith, f.place, ap length (word_first x base f.low some), g.places-low);
-        value_low = g.value_low;
-      }
-
-      pub word_more : (l'' : List ℕ) (q : ℕ) → RowsPut ((base + next x) ∷ []) p to v l' l'' q
-          → WordPut to v l l'' start q w base (bit_and x (x - 1))
-      unfolding put_changes
-      word_more l'' q d =
-          let less = less_at l to v in
-          let n = base + next x in
-          let rest = word_rows (bit_and x (x - 1)) base in
-          let s : word_rows x base ≡ n ∷ rest = word_first x base f.low some in
-          record {
-            left =
-                f.left ∙ ap (λ (rows : List ℕ). put_changes l' p (map less rows)) s
-                ∙ ap (λ (h : ℕ → Change). put_changes (put_changes l' p (map h (n ∷ []))) (p + 1) (map less rest)) (sym f.kept)
-                ∙ ap₂ (λ (m : List ℕ) (k : ℕ). put_changes m k (map less rest)) (sym d.stored) (sym d.place);
-            place = omega (arith, f.place, ap length s, d.place);
-            kept =
-                ap (λ (m : List ℕ). less_at m to v) d.stored
-                ∙ less-kept l' p to v (map (less_at l' to v) (n ∷ [])) next-puttable.old-before next-puttable.places-low ∙ f.kept;
-            room = put-length (n ∷ []) p to v l' l'' q d ∙ f.room;
-            after = omega (arith, d.place, f.after);
-            low = omega (arith, f.low, and_le_l x (x - 1));
-          }
+    pub word_more : (l'' : List ℕ) (q : ℕ) → RowsPut ((base + next x) ∷ []) p to v l' l'' q
+        → WordPut to v l l'' start q w base (bit_and x (x - 1))
+    unfolding put_changes
+    word_more l'' q d =
+        let less = less_at l to v in
+        let n = base + next x in
+        let rest = word_rows (bit_and x (x - 1)) base in
+        let s : word_rows x base ≡ n ∷ rest = word_first x base f.low some in
+        record {
+          left =
+              f.left ∙ ap (λ (rows : List ℕ). put_changes l' p (map less rows)) s
+              ∙ ap (λ (h : ℕ → Change). put_changes (put_changes l' p (map h (n ∷ []))) (p + 1) (map less rest)) (sym f.kept)
+              ∙ ap₂ (λ (m : List ℕ) (k : ℕ). put_changes m k (map less rest)) (sym d.stored) (sym d.place);
+          place = omega (arith, f.place, ap length s, d.place);
+          kept =
+              ap (λ (m : List ℕ). less_at m to v) d.stored
+              ∙ less-kept l' p to v (map (less_at l' to v) (n ∷ [])) next-puttable.old-before next-puttable.places-low ∙ f.kept;
+          room = put-length (n ∷ []) p to v l' l'' q d ∙ f.room;
+          after = omega (arith, d.place, f.after);
+          low = omega (arith, f.low, and_le_l x (x - 1));
+        }
 
   pub word-put : x ≡ 0 → RowsPut (word_rows w base) start to v l l' p
   unfolding put_changes

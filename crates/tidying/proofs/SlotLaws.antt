@@ -3,7 +3,6 @@ use mathlib.Core.Path.{◌≡◌, sym, ap, ap₂, ◌∙◌}
 use mathlib.Core.Bool.{Bool}
 use mathlib.Core.List.{List}
 use Prim.Native.Nat.{ℕ, ◌+◌, ◌-◌, ◌*◌}
-use native.Mathlib.Omega.{arith}
 use borrow.Rule.Slice.PartMut.{put_mid}
 use lib.ListN.{length}
 use Rattle.bits.specs.Bit.{xorb}
@@ -16,9 +15,8 @@ use Rattle.bits.specs.Words.{bit_at, Words, xor_words}
 use Rattle.tables.specs.Cells.{slot_words, end_at}
 use Rattle.history.specs.declared.chain.Base.{Base}
 use Rattle.history.specs.Version.{base_seen}
-use Rattle.history.specs.Flips.{flipped_in, RowsLow}
+use Rattle.history.specs.Flips.{flipped_in}
 use Rattle.history.specs.Query.{queried_at, queried_since}
-use Rattle.tidying.specs.Tidy.{Fillable}
 
 -- ---- its part of the words
 
@@ -32,16 +30,6 @@ filled base mask d w m b n q =
 -- ---- the vector
 
 module _ (slots words heads log changes : List ℕ) (k s v : ℕ) where
-  -- the rows that the mask is made of
-  pub mask-rows : (from to : ℕ) → Fillable slots words heads log changes k s v → to ≡ end_at log s → RowsLow changes from to
-  mask-rows from to f e =
-      record {
-        changes-room = f.rows.changes-room;
-        end_low = rw e f.rows.end_low;
-        rows-low =
-            λ p h l. f.rows.rows-low p (omega arith) (omega arith);
-      }
-
   pub vector-written : (base : Base) (to : ℕ) (mask own ws d : List ℕ) → base ≡ base_seen slots heads log s v → to ≡ end_at log s
       → mask ≡ vec (flipped_in changes base.from to v) 32 → ws ≡ slot_words words base.slot → own ≡ ws
       → d ≡ vec (λ r. xorb (bit_at own r) (bit_at mask r)) 32

@@ -21,7 +21,7 @@ use Rattle.tables.specs.Cells.{Tables, tables, stamp_in, slots_in, changes_in, e
 use Rattle.tables.specs.Clock.{clock_in, later}
 use Rattle.tables.specs.Meaning.{meaning}
 use Rattle.tables.proofs.Facts.{room-facts, parts, clock-limits, last_end, end-high}
-use Rattle.history.specs.Flips.{flipped_in, RowsLow}
+use Rattle.history.specs.Flips.{flipped_in}
 use Rattle.history.proofs.Ready.{based, rows-low}
 use Rattle.outcomes.specs.declared.answers.Answer.{Answer}
 use Rattle.lent.specs.declared.seats.Seat.{Seat}
@@ -106,12 +106,6 @@ module _ (clock slots words heads log changes : List ℕ) (s v to : ℕ) (moved 
     tidy-answers after r f = λ ts.
         let o = tidied_cells (lent ts) s v (moved_in log changes s v) in
         f ts ∙ ap (tidied_cells (lent ts) s v) moved-is ∙ ap (λ (w : Option ℕ). unless w (lent ts) [] o) (why-is none q)
-
--- the changes that the moved rows are told by
-pub moved-rows : (clock slots words heads log changes : List ℕ) (s v to : ℕ) → Tidyable clock slots words heads log changes s v
-    → to ≡ end_at log s
-    → RowsLow changes 0 to
-moved-rows clock slots words heads log changes s v to f e = rw e f.rows
 
 -- ---- the call
 

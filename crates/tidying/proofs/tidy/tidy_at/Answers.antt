@@ -1,11 +1,7 @@
 -- `tidy::tidy_at` meets its contract.
-use borrow.Author.Rules.{rules}
 use Rattle.std.proofs.lemmas.Result.{err_from_is_err_and}
-use Rattle.tidying.proofs.TidyLaws.{moved-rows, tidy-ready, tidy-refuses, tidy-answers}
+use Rattle.tidying.proofs.TidyLaws.{tidy-ready, tidy-refuses, tidy-answers}
 use Rattle.tidying.proofs.tidy.tidy_at.Goals as goal
-
-pub flips-moved-requires : goal.flips-moved-requires
-flips-moved-requires c = (search rules, search moved-rows)
 
 pub returns-in_err-ready : goal.returns-in_err-ready
 returns-in_err-ready c =

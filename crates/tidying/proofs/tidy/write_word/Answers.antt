@@ -1,9 +1,7 @@
 -- `tidy::write_word` meets its contract: what is put of the rows of the word, and what is still to come, is the whole.
-use Rattle.tidying.proofs.MovedLaws.{word-begun, next-puttable, word-less, word_more, word-put}
+use Rattle.bits.proofs.WordRows.{word-less}
+use Rattle.tidying.proofs.MovedLaws.{next-puttable, word_more, word-put}
 use Rattle.tidying.proofs.tidy.write_word.Goals as goal
-
-pub loop-x-init : goal.loop-x-init
-loop-x-init c = search word-begun
 
 pub put_less-p-requires : goal.put_less-p-requires
 put_less-p-requires c = search next-puttable
