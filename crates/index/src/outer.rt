@@ -305,7 +305,17 @@ pub fn tidy(
         log.old changes.old sessions.old) n v }
 {
     let seat = lent::seat_of(clock, log, sessions, n);
-    tidying::tidy_in(clock, slots, words, heads, log, changes, seat, n, outcomes::value_of(v))
+    tidying::tidy_in(
+        clock,
+        slots,
+        words,
+        heads,
+        log,
+        changes,
+        seat,
+        n,
+        outcomes::value_of(v),
+    )
 }
 
 // Abort: the length of the list dropped.

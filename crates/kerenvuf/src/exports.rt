@@ -29,7 +29,9 @@ pub extern "C" fn kv_create(
         (tables clock.old slots.old words.old heads.old
         log.old changes.old sessions.old) c column.now) }
 {
-    KvAnswer::from(index::create(clock, slots, words, heads, log, changes, sessions, c, column))
+    KvAnswer::from(index::create(
+        clock, slots, words, heads, log, changes, sessions, c, column,
+    ))
 }
 
 // Begin: the start stamp and row count.
@@ -74,7 +76,9 @@ pub extern "C" fn kv_query(
         (tables clock.old slots.old words.old heads.old
         log.old changes.old sessions.old) scratch.old n v threshold) }
 {
-    KvAnswer::from(index::query(clock, slots, words, heads, log, changes, sessions, scratch, n, v, threshold))
+    KvAnswer::from(index::query(
+        clock, slots, words, heads, log, changes, sessions, scratch, n, v, threshold,
+    ))
 }
 
 // Span: how many rows hold a value from `first` to `last`; they stand in the list's first cells, ascending, each once.
@@ -98,7 +102,9 @@ pub extern "C" fn kv_span(
         (tables clock.old slots.old words.old heads.old
         log.old changes.old sessions.old) list.old n first last) }
 {
-    KvAnswer::from(index::span(clock, slots, words, heads, log, changes, sessions, list, n, first, last))
+    KvAnswer::from(index::span(
+        clock, slots, words, heads, log, changes, sessions, list, n, first, last,
+    ))
 }
 
 // Read: the row's value, or that it is absent.
@@ -143,7 +149,9 @@ pub extern "C" fn kv_update(
         (tables clock.old slots.old words.old heads.old
         log.old changes.old sessions.old) n row v) }
 {
-    KvAnswer::from(index::update(clock, slots, words, heads, log, changes, sessions, n, row, v))
+    KvAnswer::from(index::update(
+        clock, slots, words, heads, log, changes, sessions, n, row, v,
+    ))
 }
 
 // Delete: the list's length.

@@ -34,20 +34,46 @@ pub fn turn(
     };
     match request {
         Request::Column { values, rows } => index::create(
-            clock, slots, words, heads, log, changes, sessions, values, &column[..rows],
+            clock,
+            slots,
+            words,
+            heads,
+            log,
+            changes,
+            sessions,
+            values,
+            &column[..rows],
         ),
-        Request::Begin { session } => index::begin(clock, slots, words, heads, log, changes, sessions, session),
+        Request::Begin { session } => index::begin(
+            clock, slots, words, heads, log, changes, sessions, session,
+        ),
         Request::Query { session, value } => index::query(
             clock, slots, words, heads, log, changes, sessions, scratch, session, value, 8,
         ),
-        Request::Read { session, row } => index::read(clock, slots, words, heads, log, changes, sessions, session, row),
-        Request::Update { session, row, value } => index::update(
+        Request::Read { session, row } => index::read(
+            clock, slots, words, heads, log, changes, sessions, session, row,
+        ),
+        Request::Update {
+            session,
+            row,
+            value,
+        } => index::update(
             clock, slots, words, heads, log, changes, sessions, session, row, value,
         ),
-        Request::Delete { session, row } => index::delete(clock, slots, words, heads, log, changes, sessions, session, row),
-        Request::Insert { session, value } => index::insert(clock, slots, words, heads, log, changes, sessions, session, value),
-        Request::Commit { session } => index::commit(clock, slots, words, heads, log, changes, sessions, session),
-        Request::Tidy { session, value } => index::tidy(clock, slots, words, heads, log, changes, sessions, session, value),
-        Request::Abort { session } => index::abort(clock, slots, words, heads, log, changes, sessions, session),
+        Request::Delete { session, row } => index::delete(
+            clock, slots, words, heads, log, changes, sessions, session, row,
+        ),
+        Request::Insert { session, value } => index::insert(
+            clock, slots, words, heads, log, changes, sessions, session, value,
+        ),
+        Request::Commit { session } => index::commit(
+            clock, slots, words, heads, log, changes, sessions, session,
+        ),
+        Request::Tidy { session, value } => index::tidy(
+            clock, slots, words, heads, log, changes, sessions, session, value,
+        ),
+        Request::Abort { session } => index::abort(
+            clock, slots, words, heads, log, changes, sessions, session,
+        ),
     }
 }

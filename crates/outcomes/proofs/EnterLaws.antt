@@ -153,34 +153,34 @@ module _ (clock slots words heads log changes : List ℕ) (x : Seat) (n : ℕ) w
   opened-stays k e = stays clock slots words heads log changes x.places x.fit (no_session n ∷ []) (shut x ∷ strange clock x ∷ []) k (sym e)
 
   module _ (e : none ≡ placed_by clock slots words heads log changes x.places x.fit n) where
-      placed-none : tests (no_session n ∷ []) ≡ none
-      placed-none = sym e
+    placed-none : tests (no_session n ∷ []) ≡ none
+    placed-none = sym e
 
-      pub placed-clock : 6 ≤ length clock
-      placed-clock = clock-there (no_session n ∷ []) placed-none
+    pub placed-clock : 6 ≤ length clock
+    placed-clock = clock-there (no_session n ∷ []) placed-none
 
-      on : first_of (shut x ∷ strange clock x ∷ []) ≡ opened_by clock slots words heads log changes x n
-      on = goes_on clock slots words heads log changes x.places x.fit (no_session n ∷ []) (shut x ∷ strange clock x ∷ []) placed-none
+    on : first_of (shut x ∷ strange clock x ∷ []) ≡ opened_by clock slots words heads log changes x n
+    on = goes_on clock slots words heads log changes x.places x.fit (no_session n ∷ []) (shut x ∷ strange clock x ∷ []) placed-none
 
-      pub not-open : (x.session.live ≡ 1 → ⊥) → some 5 ≡ opened_by clock slots words heads log changes x n
-      not-open l = ap (λ (b : Bool). cond (not b) (some 5) (first_of (strange clock x ∷ []))) (sym (ne_eqb x.session.live 1 l)) ∙ on
+    pub not-open : (x.session.live ≡ 1 → ⊥) → some 5 ≡ opened_by clock slots words heads log changes x n
+    not-open l = ap (λ (b : Bool). cond (not b) (some 5) (first_of (strange clock x ∷ []))) (sym (ne_eqb x.session.live 1 l)) ∙ on
 
-      module _ (l : x.session.live ≡ 1) (c : Clock) (k : c ≡ clock_in clock) (b : Bool)
-          (q : b ≡ in_reach c.stamp.0 x.session.start.0 x.session.rows.0 x.session.count) where
-        reached : b ≡ in_reach (stamp_in clock) x.session.start.0 x.session.rows.0 x.session.count
-        unfolding clock_in
-        reached = q ∙ ap (λ (d : Clock). in_reach d.stamp.0 x.session.start.0 x.session.rows.0 x.session.count) k
+    module _ (l : x.session.live ≡ 1) (c : Clock) (k : c ≡ clock_in clock) (b : Bool)
+        (q : b ≡ in_reach c.stamp.0 x.session.start.0 x.session.rows.0 x.session.count) where
+      reached : b ≡ in_reach (stamp_in clock) x.session.start.0 x.session.rows.0 x.session.count
+      unfolding clock_in
+      reached = q ∙ ap (λ (d : Clock). in_reach d.stamp.0 x.session.start.0 x.session.rows.0 x.session.count) k
 
-        left : cond (not b) (some 2) none ≡ opened_by clock slots words heads log changes x n
-        left =
-            ap (λ (r : Bool). cond (not r) (some 2) none) reached
-            ∙ ap (λ (z : Bool). cond (not z) (some 5) (first_of (strange clock x ∷ []))) (sym (eq-eqb x.session.live 1 l)) ∙ on
+      left : cond (not b) (some 2) none ≡ opened_by clock slots words heads log changes x n
+      left =
+          ap (λ (r : Bool). cond (not r) (some 2) none) reached
+          ∙ ap (λ (z : Bool). cond (not z) (some 5) (first_of (strange clock x ∷ []))) (sym (eq-eqb x.session.live 1 l)) ∙ on
 
-        pub out-of-reach : not b ≡ true → some 2 ≡ opened_by clock slots words heads log changes x n
-        out-of-reach h = ap (λ (z : Bool). cond z (some 2) none) (sym h) ∙ left
+      pub out-of-reach : not b ≡ true → some 2 ≡ opened_by clock slots words heads log changes x n
+      out-of-reach h = ap (λ (z : Bool). cond z (some 2) none) (sym h) ∙ left
 
-        pub opened-passes : not b ≡ false → none ≡ opened_by clock slots words heads log changes x n
-        opened-passes h = ap (λ (z : Bool). cond z (some 2) none) (sym h) ∙ left
+      pub opened-passes : not b ≡ false → none ≡ opened_by clock slots words heads log changes x n
+      opened-passes h = ap (λ (z : Bool). cond z (some 2) none) (sym h) ∙ left
 
   module _ (v : ℕ) where
     pub valued-stays : (k : ℕ) → some k ≡ opened_by clock slots words heads log changes x n

@@ -1,15 +1,12 @@
 -- A line answered, or none: what it leaves, and the bytes of its answer.
-use mathlib.Core.Path.{◌≡◌, refl, sym, ap, ap₂, ◌∙◌}
-use mathlib.Core.Bool.{Bool, false, cond}
+use mathlib.Core.Path.{◌≡◌, refl, sym, ap, ◌∙◌}
 use mathlib.Core.List.{List, [], ◌∷◌, ◌++◌, append-nil, append_assoc}
 use Prim.Native.Nat.{ℕ, ◌≤◌}
 use native.Mathlib.Omega.{arith}
-use lib.ListN.{length, take, set, replicate}
+use lib.ListN.{length, take}
 use lib.Seq.{sets}
 use Rattle.std.specs.Prelude.{Option, Some, None}
-use Rattle.tables.specs.declared.session.Session.{Session}
-use Rattle.tables.specs.Cells.{Tables, tables}
-use Rattle.tables.specs.Sessions.{freed}
+use Rattle.tables.specs.Cells.{Tables}
 use Rattle.text.specs.Parse.{parse}
 use Rattle.text.specs.Feed.{whole_line}
 use Rattle.lines.specs.Turn.{turn_of}

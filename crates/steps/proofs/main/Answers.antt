@@ -17,6 +17,6 @@ program-requires c = record {
     changes-is = refl;
     scratch-is = refl;
   };
-  free = ap (replicate 16) c.free_session.ensures;
+  free = ap (replicate 16) c.free_session-sessions.ensures;
   in_bounds = (search rules, search rules, search rules);
 }

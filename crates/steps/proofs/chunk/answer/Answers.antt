@@ -20,8 +20,8 @@ slice_bounds-answered-count c = c.loop-more.invariant.came.fits.filled-fits
 pub slice_bounds-answered-start : goal.slice_bounds-answered-start
 slice_bounds-answered-start c = c.loop-more.invariant.came.fits.filled-fits
 
-pub answered-requires : goal.answered-requires
-answered-requires c =
+pub answered-filled-requires : goal.answered-filled-requires
+answered-filled-requires c =
     let g = c.loop-more.invariant in
     let f = c.feed_line-fed.ensures in
     (omega arith, going-part g c.loop-more-test.true, rw f.room f.line-fits)
@@ -29,12 +29,12 @@ answered-requires c =
 pub overflow_add-filled : goal.overflow_add-filled
 overflow_add-filled c =
     let g = c.loop-more.invariant in
-    omega (arith, going-room g c.loop-more-test.true, c.answered.ensures.short)
+    omega (arith, going-room g c.loop-more-test.true, c.answered-filled.ensures.short)
 
 pub goes_on-more-requires-in-loop-more : goal.goes_on-more-requires-in-loop-more
 goes_on-more-requires-in-loop-more c =
     let g = c.loop-more.invariant in
-    filled_more g.came (going-room g c.loop-more-test.true) c.feed_line-fed.ensures c.answered.ensures
+    filled_more g.came (going-room g c.loop-more-test.true) c.feed_line-fed.ensures c.answered-filled.ensures
 
 pub loop-more-smaller : goal.loop-more-smaller
 loop-more-smaller c = let f = c.feed_line-fed.ensures in omega (arith, f.goes_on, f.within)
@@ -43,7 +43,7 @@ pub loop-more-preserved : goal.loop-more-preserved
 loop-more-preserved c =
     let g = c.loop-more.invariant in
     record {
-      came = comes-more g.came (going-room g c.loop-more-test.true) c.feed_line-fed.ensures c.answered.ensures;
+      came = comes-more g.came (going-room g c.loop-more-test.true) c.feed_line-fed.ensures c.answered-filled.ensures;
       test = c.goes_on-more-in-loop-more.ensures;
     }
 
