@@ -1,5 +1,5 @@
 // Numbers as sets of bits: flip sets (bit v of a u32 for the value v), and what is to be said of vectors (bit r of words of 64 for the row
-// r), whose code is the crate `vectors`; numbers made wider and narrower.
+// r), whose code is the crate `vectors`.
 // The contracts cite specs/, where `vec f n` is the n words whose row r is f r. Assumes nothing.
 #![tactic(auto)]
 
@@ -7,4 +7,4 @@ mod sets;
 mod widths;
 
 pub use sets::{all_below, has, toggle, without};
-pub use widths::{long, narrow, short, wide, wide_byte, wide_short};
+pub use widths::narrow;
