@@ -54,7 +54,7 @@ fn rows_below(changes: &[u32], from: usize, to: usize, rows: Row) -> bool
     rows_below_each(changes, to - (to - from + 7) / 8 * 8, to, rows)
 }
 
-// Of the records k + 1, k + 1 + step, .. up to n, the last before the row count changes.
+// Of the records k + 1, k + 1 + step, .. up to n, the last before the row count changes: the step is no count.
 fn alike_by(log: &[u32], k: usize, n: usize, step: usize) -> usize
     requires { (k < n) × (n ≤ 512) × (0 < step) × (step ≤ 8) × (2048 ≤ length log.now) }
     ensures { Alike log.now k result n }
@@ -80,7 +80,8 @@ fn last_alike(log: &[u32], k: usize, n: usize) -> usize
     alike_by(log, e, n, 1)
 }
 
-// Whether the changes of each of the first n records have rows below its row count. Records of one row count are judged together.
+// Whether the changes of each of the first n records have rows below its row count. Records of one row count are judged together, so
+// that a step is over as many records as have it.
 fn each_rows_fit(log: &[u32], changes: &[u32], n: usize) -> bool
     requires { (n ≤ 512) × (2048 ≤ length log.now) × (4096 ≤ length changes.now) × Rising log.now n }
     ensures { result ≡ all_below (record_rows_fit log.now changes.now) n }

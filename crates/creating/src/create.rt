@@ -1,4 +1,4 @@
-// Create: its refusals, and the tables filled from a column.
+// Create: its refusals, and the tables filled from a column. All six tables are written, so they are passed apart, as C lends them.
 ghost use Rattle.std.specs.Prelude.{◌≡◌, not, ◌≤◌, length, replicate};
 ghost use Rattle.bits.specs.Tab.{tab, over};
 ghost use Rattle.bits.specs.Vec.{vec};

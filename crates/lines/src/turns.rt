@@ -1,4 +1,4 @@
-// What a line asks for is done, by the public call of its word.
+// What a line asks for is done, by the public call of its word. The tables are parameters, as the calls take them.
 ghost use Rattle.std.specs.Prelude.{◌≤◌, length};
 ghost use Rattle.tables.specs.Cells.{tables};
 ghost use Rattle.text.specs.Asked.{asked, taken};

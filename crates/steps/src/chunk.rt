@@ -8,7 +8,7 @@ ghost use Rattle.steps.specs.Answers.{Replied, spot, Answers};
 use tables::Session;
 
 // What stands between two lines: how many bytes are pending of the next one, how many bytes of answers are not yet written,
-// and where the chunk goes on.
+// and where the chunk goes on. The buffers are fixed, as there is no heap: so their lengths in use go beside them.
 #[derive(Clone, Copy)]
 pub struct State {
     pub pending: usize,
@@ -94,8 +94,7 @@ pub fn answer(
     let mut len = before.pending;
     let mut filled = before.filled;
     let mut at = before.next;
-    let mut more = goes_on(at, bytes.len(), filled, out.len());
-    while more {
+    'lines: while goes_on(at, bytes.len(), filled, out.len()) {
         let fed = text::feed_line(pending, len, bytes, at);
         filled += answered(
             clock,
@@ -113,7 +112,6 @@ pub fn answer(
         );
         len = fed.len;
         at = fed.next;
-        more = goes_on(at, bytes.len(), filled, out.len());
     }
     State {
         pending: len,

@@ -88,7 +88,8 @@ pub fn put_head(heads: &mut [u32], v: Value, i: u32)
     heads[v.0 as usize] = i;
 }
 
-// The record of a stamp gets that stamp, its kind, its row count and the end of its changes.
+// The record of a stamp gets that stamp, its kind, its row count and the end of its changes. The kind is any number, as a cell holds it:
+// a caller passes that of a `Kind`.
 pub fn put_record(log: &mut [u32], stamp: Stamp, kind: u32, rows: Row, end: u32)
     requires { (0 < stamp.0) × (stamp.0 ≤ 512) × (2048 ≤ length log.old) }
     ensures { log.new ≡ put_record log.old (stamp.0 - 1) kind rows.0 end }

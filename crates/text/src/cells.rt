@@ -104,7 +104,7 @@ pub struct Run {
     pub n: usize,
 }
 
-// Such cells after the space at `start`, into `column` after its first k, up to one that is none.
+// Such cells after the space at `start`, into `column` after its first k, up to one that is none: a step is a cell, of two bytes or three.
 fn run_into(line: &[u8], start: usize, column: &mut [u8], k: usize) -> Run
     requires { (start < length line.now) × (length line.now + 2 * k ≤ start + 2 * length column.old) }
     ensures { Ran line.now start k column.old column.new result }
@@ -122,7 +122,8 @@ fn run_into(line: &[u8], start: usize, column: &mut [u8], k: usize) -> Run
     Run { at, n }
 }
 
-// The cells after the space at `start`, into `column`, and how many they are, if all are: each takes two bytes of the line at least.
+// The cells after the space at `start`, into `column`, and how many they are, if all are: each takes two bytes of the line at least,
+// so that a step is no count.
 fn cells_into(line: &[u8], start: usize, column: &mut [u8]) -> Option<usize>
     requires { length line.now ≤ start + 2 * length column.old }
     ensures { Stored line.now start column.old column.new result }

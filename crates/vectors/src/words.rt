@@ -7,7 +7,7 @@ ghost use Rattle.bits.specs.Rows.{count_of};
 ghost use Rattle.bits.specs.Tail.{tail_clear, zeros_from};
 ghost use Rattle.bits.specs.Vectors.{tails_clear, word_of_all, rest_of, zeros_of_all};
 
-// Whether bit k of the word is set.
+// Whether bit k of the word is set. `bits::has` asks the same of a u32: one function for both would want a trait of shifts with its laws.
 #[tactic(auto, unfolding(bits::specs::Bit::bit))]
 fn has_bit(w: u64, k: usize) -> bool
     requires { k < 64 }
