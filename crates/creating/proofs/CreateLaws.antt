@@ -150,11 +150,6 @@ module _ (c : ℕ) (d₀ d : List ℕ) (i : ℕ) (f : Filled (below c) d₀ d i)
   pub numbered-to : (n : ℕ) → i ≤ n → n ≤ i → d ≡ over (tab (below c) n) d₀
   numbered-to n h l = let e : i ≡ n = omega arith in f.sofar ∙ ap (λ (k : ℕ). over (tab (below c) k) d₀) e
 
--- the first n cells filled with 0
-pub zeros-made : (n : ℕ) (d : List ℕ) → n ≤ length d → replicate (length (take n d)) 0 ++ drop n d ≡ over (replicate n 0) d
-zeros-made n d h =
-    ap₂ (λ (x k : ℕ). replicate x 0 ++ drop k d) (length-take-le n d h) (sym (length-replicate n 0))
-
 -- ---- vectors and the clock
 
 pub columns-written : (p z d col : List ℕ) → z ≡ vec (λ r. false) (length p) → d ≡ vec (λ q. bit_at z q || column_bit col q) (length z)

@@ -42,8 +42,10 @@ fn each_vector_fits(
 // Whether every vector in use is sound. Slots below C have stamp 0, so their vectors are judged together at the first row count;
 // where the row count is still the first one, so are all.
 pub fn vectors_fit(clock: &[u32], log: &[u32], slots: &[u32], words: &[u64]) -> bool
-    requires in_bounds { (6 ≤ length clock.now) × (288 ≤ length slots.now) × (3072 ≤ length words.now) × (2048 ≤ length log.now) }
-    requires clock_value { (clock_fits clock.now ≡ true) × (records_fit clock.now log.now ≡ true) × (slots_fit clock.now slots.now ≡ true) }
+    requires in_bounds { (6 ≤ length clock.now) × (288 ≤ length slots.now) × (3072 ≤ length words.now)
+        × (2048 ≤ length log.now) }
+    requires clock_value { (clock_fits clock.now ≡ true) × (records_fit clock.now log.now ≡ true)
+        × (slots_fit clock.now slots.now ≡ true) }
     ensures { result ≡ vectors_fit clock.now log.now slots.now words.now }
 {
     let c = tables::clock_of(clock);

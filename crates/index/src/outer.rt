@@ -1,6 +1,6 @@
 // The calls, over every lent table: each finds its seat and goes through its core, with the caller's numbers as rows and values; then its
-// session is opened, put back or freed, where the core did not refuse. Each table is a parameter, as C lends it; a struct of seven `&mut` would
-// have each contract name seven parts at the exit, and promise of each that it is still the same one.
+// session is opened, put back or freed, where the core did not refuse. Each table is a parameter, as C lends it; a struct of seven `&mut`
+// would have each contract name seven parts at the exit, and promise of each that it is still the same one.
 ghost use Rattle.std.specs.Prelude.{◌≡◌, [], ◌∷◌};
 ghost use Rattle.tables.specs.Cells.{tables};
 ghost use Rattle.outcomes.specs.Said.{said};

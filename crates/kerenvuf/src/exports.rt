@@ -1,5 +1,6 @@
 // The calls as C calls them: each is the call of the index, and its answer in numbers. What C sees of a call, every lent cell and
-// every number of the answer, is what the call's definition says. C calls each by a name and with parameters of its own, so each stands alone.
+// every number of the answer, is what the call's definition says. C calls each by a name and with parameters of its own: so each stands
+// alone.
 ghost use Rattle.std.specs.Prelude.{◌≡◌, [], ◌∷◌};
 ghost use Rattle.tables.specs.Cells.{tables};
 ghost use Rattle.outcomes.specs.Calls.{create_of, begin_of, read_of, update_of, delete_of, insert_of, commit_of, tidy_of, abort_of};

@@ -52,11 +52,6 @@ put-near : (ts : List Session) (i : ℕ) (s : Session) → i < 16 → put_at ts 
 unfolding put_at
 put-near ts i s l = ap (λ (t : Bool). cond t (set ts i s) ts) (lt-ltb i 16 l)
 
--- nothing changes where there is no such place
-pub put-at-far : (ts : List Session) (i : ℕ) (s : Session) → 16 ≤ i → put_at ts i s ≡ ts
-unfolding put_at
-put-at-far ts i s l = ap (λ (t : Bool). cond t (set ts i s) ts) (le-ltb i 16 l)
-
 pub length-freed-all : (ts : List Session) → length (freed_all ts) ≡ length ts
 unfolding freed_all
 length-freed-all ts = length-sets ts 0 (replicate 16 freed)

@@ -47,14 +47,6 @@ module _ (x : Session) (row : ℕ) where
         let z : i ≡ x.count = omega arith in
         p ∙ sym (ap (λ (o : Option ℕ). or_place o x.count) (ap (smallest_below has_row) (sym z) ∙ e))
 
--- ---- what a target cell says
-
-pub target-absent : (to : ℕ) → to ≡ 255 → none ≡ target_of to
-target-absent to e = sym (target_none to e)
-
-pub target-holds : (to v : ℕ) → (to ≡ 255 → ⊥) → v ≡ to → some v ≡ target_of to
-target-holds to v d e = ap some e ∙ sym (target-some to d)
-
 -- ---- one entry more
 
 module _ (x : Session) (i : ℕ) where

@@ -47,10 +47,6 @@ idle a b e = record { says = e; stays = λ ts. refl }
 pub idle-opening : (d : Result Begun Refusal) (n : ℕ) (why : Refusal) → d ≡ Err why → Idle (opening d n) (begun_answer d) (Err why)
 idle-opening d n why e = record { says = ap begun_answer e; stays = λ ts. ap (λ (y : Result Begun Refusal). opening y n ts) e }
 
-pub idle-standing : (d : Result Begun Refusal) (n : ℕ) (s : Stamp) (m : Row) → d ≡ Ok (Stands s m)
-    → Idle (opening d n) (begun_answer d) (Ok (At s m))
-idle-standing d n s m e = record { says = ap begun_answer e; stays = λ ts. ap (λ (y : Result Begun Refusal). opening y n ts) e }
-
 pub idle-relisting : (d : Result Session Refusal) (n : ℕ) (why : Refusal) → d ≡ Err why → Idle (relisting d n) (list_answer d) (Err why)
 idle-relisting d n why e = record { says = ap list_answer e; stays = λ ts. ap (λ (y : Result Session Refusal). relisting y n ts) e }
 

@@ -39,7 +39,8 @@ fn started(heard_at: usize, told_at: usize) -> Stand
     }
 }
 
-// The lines of a chunk are answered, and the answers written, piece by piece as the buffer has room; after a write that failed, no line more.
+// The lines of a chunk are answered, and the answers written, piece by piece as the buffer has room; after a write that failed, no line
+// more.
 fn whole(
     stdout: Stdout,
     stderr: Stderr,

@@ -2,27 +2,13 @@
 use mathlib.Core.Path.{◌≡◌, sym, ap, ap₂, ◌∙◌}
 use mathlib.Core.Bool.{Bool, cond}
 use mathlib.Core.List.{List}
-use Prim.Native.Nat.{ℕ, zero, suc, ◌+◌, ◌-◌, ◌≤◌, ◌<◌}
+use Prim.Native.Nat.{ℕ, ◌+◌, ◌-◌, ◌≤◌, ◌<◌}
 use native.Mathlib.Omega.{arith}
 use borrow.Author.Tests.{le-leb, lt-leb}
-use lib.ListN.{length, get_or, set}
+use lib.ListN.{length, set}
 use Rattle.tables.specs.declared.clock.Clock.{Clock}
-use Rattle.tables.specs.Cells.{end_at, rows_in_log}
 use Rattle.tables.specs.Stores.{put_record}
 use Rattle.tables.specs.Clock.{clock_of, clock_in, lent_clock}
-
--- the end and the row count at a stamp above 0 lie one place before the stamp
-pub end_later : (log : List ℕ) (s k r : ℕ) → k ≡ s → (k ≡ 0 → ⊥) → r ≡ get_or log (1535 + k) 0 → r ≡ end_at log s
-end_later log zero k r e n q = absurd (n e)
-end_later log (suc s) k r e n q = let p : 1535 + k ≡ 1536 + s = omega arith in q ∙ ap (λ (i : ℕ). get_or log i 0) p
-
-pub rows-later : (first : ℕ) (log : List ℕ) (s k : ℕ) → k ≡ s → (k ≡ 0 → ⊥) → get_or log (1023 + k) 0 ≡ rows_in_log first log s
-rows-later first log zero k e n = absurd (n e)
-rows-later first log (suc s) k e n = let p : 1023 + k ≡ 1024 + s = omega arith in ap (λ (i : ℕ). get_or log i 0) p
-
--- a cell under another name of its place
-pub cell_at : (l : List ℕ) (i k r : ℕ) → k ≡ i → r ≡ get_or l k 0 → r ≡ get_or l i 0
-cell_at l i k r e q = q ∙ ap (λ (j : ℕ). get_or l j 0) e
 
 pub set-at-same : (l : List ℕ) (i k x : ℕ) → k ≡ i → set l k x ≡ set l i x
 set-at-same l i k x e = ap (λ (j : ℕ). set l j x) e

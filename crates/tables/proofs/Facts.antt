@@ -15,7 +15,7 @@ use Rattle.bits.specs.All.{all_below}
 use Rattle.bits.proofs.AllLaws.{all-at, all_of}
 use Rattle.rules.specs.Limits.{max_values, max_rows, max_slots, max_records, max_changes}
 use Rattle.tables.specs.Cells.{Tables, values_in, first_in, stamp_in, rows_in, slots_in, changes_in, record_stamp, record_kind}
-use Rattle.tables.specs.Cells.{record_rows, record_end, rows_in_log, end_at, change_row, change_set}
+use Rattle.tables.specs.Cells.{record_end, rows_in_log, end_at, change_row, change_set}
 use Rattle.tables.specs.Room.{room_for, roomy, Roomy}
 use Rattle.tables.specs.Damage.{clock_fits, record_fits, records_fit, all_in, change_fits, record_changes_fit, changes_fit, slots_fit}
 use Rattle.tables.specs.Damage.{heads_fit, vectors_fit, sessions_fit, sound}
@@ -122,9 +122,6 @@ rises g n h a (suc b) p q = go (eq-or-lt_of_le p) (λ l. rises g n h a b l (omeg
 -- the record after stamp k, as code counts
 pub end-next : (log : List ℕ) (k : ℕ) → end_at log (k + 1) ≡ record_end log k
 end-next log k = ap (end_at log) (add-one k)
-
-pub rows_next : (first : ℕ) (log : List ℕ) (k : ℕ) → rows_in_log first log (k + 1) ≡ record_rows log k
-rows_next first log k = ap (rows_in_log first log) (add-one k)
 
 -- the record after stamp k
 pub record RecordFacts (first : ℕ) (log : List ℕ) (k : ℕ) : Type 0 where

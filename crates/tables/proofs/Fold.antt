@@ -67,9 +67,6 @@ module _ (p : ℕ → Bool) where
 
   -- ---- a scan that stops at the first place that fails
 
-  pub scan-begin : (a j n : ℕ) → j ≡ a → all_in p a n ≡ all_in p j n
-  scan-begin a j n e = ap (λ (k : ℕ). all_in p k n) (sym e)
-
   pub scan-again : (w t : Bool) (j n : ℕ) → w ≡ all_in p j n → j < n → t ≡ p j → not t ≡ false → w ≡ all_in p (j + 1) n
   scan-again w t j n e h q m = e ∙ in-front j n h ∙ ap (λ (x : Bool). x && all_in p (j + 1) n) (sym q ∙ not-false t m)
 

@@ -8,8 +8,8 @@ use crate::counts::{Row, Stamp};
 pub const NEW: u16 = 65535;
 
 // A session: whether it is open (1) or free (0), its start, the row count of that moment, and its list. Entry i below
-// `count` is row `at[i]` with target `to[i]` (255: absent), or, where `at[i]` is NEW, an insert of `to[i]`. C reads these very cells: so numbers
-// and two arrays beside a count, and no enum or list of entries.
+// `count` is row `at[i]` with target `to[i]` (255: absent), or, where `at[i]` is NEW, an insert of `to[i]`. C reads these very
+// cells: so numbers and two arrays beside a count, and no enum or list of entries.
 #[repr(C)]
 #[derive(Clone, Copy)]
 pub struct Session {

@@ -49,8 +49,8 @@ pub fn newline_from(bytes: &[u8], from: usize) -> usize
     fields::end_from(bytes, j, b'\n')
 }
 
-// The bytes of `part` after the `len` bytes pending, as far as there is room; how many are then pending. The buffer is lent, and how much of
-// it is filled goes beside it: there is no heap, and a slice has no length of its own within what is lent.
+// The bytes of `part` after the `len` bytes pending, as far as there is room; how many are then pending. The buffer is lent, and how
+// much of it is filled goes beside it: there is no heap, and a slice has no length of its own within what is lent.
 pub fn gather(pending: &mut [u8], len: usize, part: &[u8]) -> usize
     requires { len ≤ length pending.old }
     ensures { Gathered pending.old len part.now pending.new result }
