@@ -8,7 +8,7 @@ use Rattle.std.proofs.Math.Facts.{and_yes, and_no}
 use Rattle.bits.proofs.Cases.{eq-cases, lt-cases}
 use Rattle.tables.specs.declared.session.Session.{Session}
 use Rattle.tables.specs.Sessions.{freed, session_at}
-use Rattle.lent.specs.Places.{seat_at, put_at, freed_all, freed_at, freed_from}
+use Rattle.lent.specs.Places.{seat_at, put_at, freed_all, freed_from}
 
 -- ---- a place that the slice has, and one that it has not
 cond_yes : {X : Type 0} (t : Bool) (a b : X) → T t → cond t a b ≡ a
@@ -52,6 +52,11 @@ put-near : (ts : List Session) (i : ℕ) (s : Session) → i < 16 → put_at ts 
 unfolding put_at
 put-near ts i s l = ap (λ (t : Bool). cond t (set ts i s) ts) (lt-ltb i 16 l)
 
+-- nothing changes where there is no such place
+pub put-at-far : (ts : List Session) (i : ℕ) (s : Session) → 16 ≤ i → put_at ts i s ≡ ts
+unfolding put_at
+put-at-far ts i s l = ap (λ (t : Bool). cond t (set ts i s) ts) (le-ltb i 16 l)
+
 pub length-freed-all : (ts : List Session) → length (freed_all ts) ≡ length ts
 unfolding freed_all
 length-freed-all ts = length-sets ts 0 (replicate 16 freed)
@@ -60,11 +65,35 @@ length-freed-all ts = length-sets ts 0 (replicate 16 freed)
 pub free_step : (ts : List Session) (i n : ℕ) → i < 16 → freed_from (put_at ts i freed) (suc i) n ≡ freed_from ts i (suc n)
 free_step ts i n h = ap (λ (us : List Session). freed_from us (suc i) n) (put-near ts i freed h)
 
-pub freed-next : (ts : List Session) (i : ℕ) → i < 16 → freed_from (freed_at ts i) (i + 1) (16 - (i + 1)) ≡ freed_from ts i (16 - i)
-freed-next ts i h =
+-- ---- the same of a place put back, and of all freed, where asked to
+abbrev pub listed_back : List Session → ℕ → Bool → Session → List Session
+listed_back ts n z s = cond z (put_at ts n s) ts
+
+abbrev pub all_freed : List Session → Bool → List Session
+all_freed ts z = cond z (freed_all ts) ts
+
+abbrev pub left_freed : List Session → ℕ → Bool → List Session
+left_freed ts i z = cond z (freed_from ts i (16 - i)) ts
+
+-- what is put at place n or at none is put where asked to
+pub put-meant : (ts : List Session) (n : ℕ) (z : Bool) (s : Session) → put_at ts (cond z n 16) s ≡ listed_back ts n z s
+put-meant ts n true s = refl
+put-meant ts n false s = put-at-far ts 16 s (omega arith)
+
+pub freed-next : (ts : List Session) (i : ℕ) (z : Bool) → i < 16 → left_freed (listed_back ts i z freed) (i + 1) z ≡ left_freed ts i z
+freed-next ts i true h =
     let m : ℕ = 16 - (i + 1) in
     let s : suc m ≡ 16 - i = omega (arith, h) in
     ap (λ (k : ℕ). freed_from (put_at ts i freed) k m) (add-one i) ∙ free_step ts i m h ∙ ap (freed_from ts i) s
+freed-next ts i false h = refl
+
+pub left-none : (ts : List Session) (i : ℕ) (z : Bool) → 16 ≤ i → left_freed ts i z ≡ ts
+left-none ts i true h = let e : 16 - i ≡ 0 = omega (arith, h) in ap (freed_from ts i) e
+left-none ts i false h = refl
+
+pub left-all : (ts : List Session) (z : Bool) → left_freed ts 0 z ≡ all_freed ts z
+unfolding freed_all
+left-all ts z = refl
 
 -- freeing a place leaves it free, and leaves free what was free
 at-itself : (ts : List Session) (j : ℕ) → session_at (set ts j freed) j ≡ freed
