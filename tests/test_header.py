@@ -86,7 +86,7 @@ class Places(unittest.TestCase):
 
     def test_code(self):
         """The code's enum of refusals, by name and number."""
-        rows = re.findall(r"^ *Refusal::(\w+) => (\d+),$", page("crates", "tables", "src", "refusal.rt"), re.M)
+        rows = re.findall(r"^ *(\w+) = (\d+),$", page("crates", "tables", "src", "refusal.rt"), re.M)
         named = [(int(number), re.sub(r"(?<!^)(?=[A-Z])", "_", name).upper()) for name, number in rows]
         self.assertEqual(named, [(number, name) for number, name, _ in python_table()])
 
