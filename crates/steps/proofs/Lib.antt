@@ -1,4 +1,5 @@
 -- The laws of lines answered one after another and of the whole program.
+pub mod KeptLaws
 pub mod ReplyLaws
 pub mod ChunkLaws
 pub mod DoesLaws
