@@ -33,4 +33,4 @@ loop-preserved c =
     read_more c.loop.invariant refl record { bytes = _; heard-is = w.heard_value ∙ c.in_ok-n.ensures.watch-is; through = w.through }
 
 pub returns : goal.returns
-returns c = read-over c.loop.invariant
+returns c = read-over false c.loop.invariant
