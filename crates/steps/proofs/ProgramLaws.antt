@@ -1,11 +1,11 @@
 -- Chunk after chunk, from the first byte to the end of the input.
 use mathlib.Core.Path.{◌≡◌, refl, sym, ap, ap₂, subst, ◌∙◌}
-use mathlib.Core.Bool.{Bool, true, false, ◌&&◌, and-eq-true_iff, true≢false}
+use mathlib.Core.Bool.{Bool, true, false, not, ◌&&◌, and-eq-true_iff, true≢false}
 use mathlib.Core.List.{List, [], ◌∷◌, ◌++◌, map, append_assoc}
 use mathlib.Core.Logic.{◌⊎◌, inl, inr}
 use Prim.Native.Nat.{ℕ, ◌<◌, ◌≤◌}
 use native.Mathlib.Omega.{arith}
-use borrow.Author.Tests.{ltb-true, ltb-false}
+use borrow.Author.Tests.{ltb-true, ltb-false, lt-ltb}
 use lib.Dec.{ltb}
 use lib.ListN.{length, take, replicate, length-take, drop_of_length-le}
 use lib.Seq.{take_all, take-take}
@@ -225,6 +225,25 @@ module _ {d : Desk} {p : List ℕ} {len : ℕ} {t : Told} where
       some : (q : List ℕ) → 0 < length q → last_line q ≡ q ∷ []
       some [] h = absurd (omega arith)
       some (b ∷ q) h = refl
+
+  -- with the test of what went before
+  pub ends-last : {d' : Desk} {p' : List ℕ} {len' : ℕ} {t' : Told} {well' : Bool} (well failed : Bool) → well ≡ not failed → failed ≡ false → 0 < len
+      → len ≤ length p → Through (10 ∷ []) d p len t d' p' len' t' well' → Ends d p len t well d' t' well'
+  ends-last well failed e f h l a =
+      let w : well ≡ true = e ∙ ap not f in
+      ends-line well ((and-eq-true_iff well (ltb 0 len)).1 (w, lt-ltb 0 len h)) l a
+
+  pub ends-over : (well failed : Bool) → well ≡ not failed → failed ≡ true → Ends d p len t well d t well
+  ends-over well failed e f =
+      let w : well ≡ false = e ∙ ap not f in
+      ends-none well (ap (λ (b : Bool). b && ltb 0 len) w)
+
+  pub ends-empty : (well : Bool) → len ≡ 0 → Ends d p len t well d t well
+  ends-empty well z = ends-none well (rw z (none well))
+    where
+      none : (b : Bool) → b && false ≡ false
+      none true = refl
+      none false = refl
 
   -- where something has failed, nothing more is done
   pub ends-failed : Ends d p len t false d t false

@@ -169,9 +169,8 @@ fn finish(
         changes.new sessions.new) scratch.new) stand.new.told (is_ok result) }
     ensures heard_value { stand.new.heard ≡ stand.old.heard }
 {
-    gone?;
-    if stand.pending == 0 {
-        return Ok(());
+    if gone.is_err() || stand.pending == 0 {
+        return gone;
     }
     whole(
         stdout, stderr, clock, slots, words, heads, log, changes, sessions, scratch, column,

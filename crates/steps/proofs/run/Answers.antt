@@ -1,5 +1,6 @@
 -- `run` meets its contract: at the loop's head, the bytes that the reads gave are gone through.
 use mathlib.Core.Path.{refl, ◌∙◌}
+use mathlib.Core.Bool.{false}
 use mathlib.Core.List.{[]}
 use native.Mathlib.Omega.{arith}
 use Rattle.std.proofs.lemmas.Result.{err_from_is_err_and}
