@@ -174,7 +174,7 @@ module _ (t : Tables) (n : ℕ) where
 
 -- ---- create: all free where it is accepted, and else as they were
 pub create-frees : (t : Tables) (c : ℕ) (col : List ℕ) → Makes (all_seats t.sessions) (create_of t c col)
-unfolding create_of unless all_freed accepts
+unfolding create_of unless accepts
 create-frees t c col = go (refusal_of_create t (create c (column_of col)))
   where
     go : (w : Option ℕ) → Makes (all_seats t.sessions) (unless w t [] (outcome (created_tables t c col) [] (numbers (length col ∷ []))))
