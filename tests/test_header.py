@@ -50,6 +50,13 @@ def refusals_by_call():
 class Header(unittest.TestCase):
     """The header compiles, and says what the module says."""
 
+    def test_asks_for_two_functions(self):
+        """Of the C library the archive asks for two functions, as docs/INTERFACE.md says."""
+        named = subprocess.run(["nm", "-u", ARCHIVE], stdout=subprocess.PIPE, text=True, check=True).stdout
+        asked = sorted({line.split()[-1] for line in named.splitlines() if line.split()[:1] == ["U"]})
+        self.assertEqual(asked, ["memcpy", "memset"])
+        self.assertIn("`memcpy` and `memset` alone", " ".join(page("docs", "INTERFACE.md").split()))
+
     def test_names_and_sizes(self):
         """In both languages: the refusals, the tables, the version."""
         for language in LANGUAGES:

@@ -7,7 +7,7 @@ use native.Mathlib.Nat.{eq-or-lt_of_le, le_of_suc-le-suc, not-suc-le-zero, lt-su
 use native.Mathlib.Numerals.{add-one}
 use native.Mathlib.Omega.{arith}
 use lib.ListN.{length, get_or, set, drop, length-append, length-drop, length-set, get_or-append}
-use lib.Seq.{sets, sets-eq, set_at, drop-cons, append_snoc, get_or-append_seam, get_or-append-add, get_or-drop, drop-length}
+use lib.Seq.{sets, sets-eq, set_at, drop-cons, append_snoc, get_or-append_seam, get_or-append-add, get_or-drop, drop-length, ext_get_or}
 use Rattle.bits.specs.Tab.{over, tab}
 
 -- stored one after another
@@ -64,6 +64,12 @@ module _ {A : Type 0} where
   pub tab-more : (g : ℕ → A) (n : ℕ) → tab g (n + 1) ≡ tab g n ++ (g n ∷ [])
   unfolding tab
   tab-more g n = ap (tab g) (add-one n)
+
+  -- every list is the table of its own elements
+  pub tab-self : (l : List A) (d : A) → tab (λ i. get_or l i d) (length l) ≡ l
+  tab-self l d =
+      ext_get_or d (tab (λ i. get_or l i d) (length l)) l (length-tab (λ i. get_or l i d) (length l))
+      (λ i h. get_or-tab (λ k. get_or l k d) (length l) i d (subst (λ (n : ℕ). i < n) (length-tab (λ k. get_or l k d) (length l)) h))
 
   -- within the list the default does not matter
   pub get_d_any : (l : List A) (i : ℕ) (d e : A) → i < length l → get_or l i d ≡ get_or l i e

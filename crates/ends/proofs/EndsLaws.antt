@@ -3,11 +3,12 @@ use mathlib.Core.Path.{◌≡◌, refl, sym, ap, ap₂, ◌∙◌}
 use mathlib.Core.Bool.{Bool, true, false, true≢false}
 use mathlib.Core.List.{List, [], ◌++◌, append_assoc, append-nil}
 use Prim.Native.Nat.{ℕ, ◌-◌}
+use native.Mathlib.Omega.{arith}
 use lib.ListN.{length, take, drop, take-append-drop}
 use Rattle.std.proofs.lemmas.List.{nil_from_length, take_rest}
 use Rattle.ends.specs.declared.watch.Watch.{Watch}
 use Rattle.ends.specs.Watch.{watched}
-use Rattle.ends.specs.Ends.{Put, Taken}
+use Rattle.ends.specs.Ends.{Put, Taken, Got}
 use Rattle.ends.proofs.WatchLaws.{watched-append}
 
 -- ---- some bytes taken, then more
@@ -67,3 +68,10 @@ module _ {bytes rest : List ℕ} {w₀ w : Watch} (g : Putting bytes rest w₀ w
   pub putting-failed : Taken bytes w₀ w false
   putting-failed =
       record { first = g.first; rest = rest; bytes-are = g.bytes-are; watch-is = g.watch-is; all_first = λ t. absurd (true≢false (sym t)) }
+
+-- ---- a read that failed
+
+-- it gave no byte
+pub got_none : (input : List ℕ) {w w' : Watch} → w' ≡ w → Got input w 0 w'
+unfolding watched
+got_none input e = record { within = omega arith; counted = refl; watch-is = e }

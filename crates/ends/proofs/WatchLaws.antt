@@ -20,13 +20,13 @@ unfolding watched watched_one
 watched-seen s [] = refl
 watched-seen s (b ∷ bs) = watched-seen s bs
 
-watched-here : (u : ℕ) (bs : List ℕ) → u < length bs → watched (Until u) bs ≡ Seen (get_or bs u 0)
+pub watched-here : (u : ℕ) (bs : List ℕ) → u < length bs → watched (Until u) bs ≡ Seen (get_or bs u 0)
 unfolding watched watched_one
 watched-here u [] h = absurd (omega arith)
 watched-here zero (b ∷ bs) h = watched-seen b bs
 watched-here (suc u) (b ∷ bs) h = watched-here u bs (omega arith)
 
-watched-beyond : (u : ℕ) (bs : List ℕ) → length bs ≤ u → watched (Until u) bs ≡ Until (u - length bs)
+pub watched-beyond : (u : ℕ) (bs : List ℕ) → length bs ≤ u → watched (Until u) bs ≡ Until (u - length bs)
 unfolding watched watched_one
 watched-beyond u [] h = ap Until (omega arith)
 watched-beyond zero (b ∷ bs) h = absurd (omega arith)

@@ -7,7 +7,6 @@ mod watch;
 
 ghost use Rattle.std.specs.Prelude.{is_ok};
 ghost use Rattle.std.specs.Result.{result_unwrap_or};
-ghost use Rattle.std.specs.Io.{ReadsAtMost};
 ghost use Rattle.ends.specs.Ends.{Put, Taken, Handed, Got};
 
 use std::io::{Eprint, ErrorKind, Print, Read, Stderr, Stdin, Stdout};
@@ -88,13 +87,16 @@ pub fn write(stdout: Stdout, stderr: Stderr, bytes: &[u8], told: &mut Told) -> R
     ))
 }
 
-// Reads, until one gives bytes or the end of the input, or fails.
-fn get(mut stdin: Stdin, input: &mut [u8]) -> io::Result<usize>
-    ensures { ReadsAtMost result input.new }
+// Reads, until one gives bytes or the end of the input, or fails; the watch sees the bytes that it gave.
+fn get(mut stdin: Stdin, input: &mut [u8], watch: &mut Watch) -> io::Result<usize>
+    ensures { Got input.new watch.old (result_unwrap_or result 0) watch.new }
 {
     for _ in 0..TURNS {
         match stdin.read(input) {
-            Ok(n) => return Ok(n),
+            Ok(n) => {
+                watch.pass(&input[..n]);
+                return Ok(n);
+            }
             Err(why) => {
                 if !again(&why) {
                     return Err(why);
@@ -114,7 +116,5 @@ pub fn read(
 ) -> Result<usize, Stopped>
     ensures { Got input.new watch.old (result_unwrap_or result 0) watch.new }
 {
-    let n = get(stdin, input).map_err(|why| tell(stderr, "the input could not be read", why))?;
-    watch.pass(&input[..n]);
-    Ok(n)
+    get(stdin, input, watch).map_err(|why| tell(stderr, "the input could not be read", why))
 }

@@ -2,7 +2,7 @@
 use mathlib.Core.Path.{◌≡◌, refl, sym, ◌∙◌}
 use mathlib.Core.List.{List, [], ◌∷◌}
 use mathlib.Core.Bool.{Bool, true, false, cond, ◌&&◌, and-eq-true_iff}
-use mathlib.Core.Option.{Option, none, some}
+use mathlib.Core.Option.{Option, none, some, some-injective, none-ne-some}
 use Prim.Native.Nat.{ℕ, zero, suc, ◌+◌, ◌-◌, ◌*◌, ◌<◌, ◌≤◌}
 use native.Mathlib.Omega.{arith}
 use lib.Dec.{eqb, leb, leb-zero, leb-suc-zero, leb-suc-suc}
@@ -35,6 +35,10 @@ unfolding is_digit
 digit-in b l h = rw (le-leb 48 b l, le-leb b 57 h)
 
 -- what the library's test of a byte says
+pub digit-is : (b : ℕ) → is_ascii_digit b ≡ is_digit b
+unfolding is_digit
+digit-is b = refl
+
 pub digit-yes : (b : ℕ) (d : Bool) → d ≡ is_ascii_digit b → d ≡ true → is_digit b ≡ true
 unfolding is_digit
 digit-yes b d k u = sym k ∙ u
@@ -207,3 +211,26 @@ most-le (suc (suc (suc n))) x h = omega arith
 pub most-first : (y b : ℕ) (d : Bool) → d ≡ is_ascii_digit b → d ≡ true → y ≡ b - 48 → y ≤ most 3
 unfolding most
 most-first y b d k u m = omega (arith, digit-high b (digit-yes b d k u))
+
+-- ---- a number is below 10,000
+
+digits_le : (left x : ℕ) (f : List ℕ) (y : ℕ) → left ≤ 3 → x ≤ most left → digits_from left x f ≡ some y → y ≤ 9999
+unfolding digits_from
+digits_le left x [] y l h e = let z = some-injective x y e in omega (arith, most-le left x h)
+digits_le zero x (b ∷ f) y l h e = absurd (none-ne-some y e)
+digits_le (suc left) x (b ∷ f) y l h e = go (is_digit b) refl (digits_le left (x * 10 + (b - 48)) f y (omega arith))
+  where
+    p : suc left - 1 ≡ left
+    p = omega arith
+
+    go : (t : Bool) → is_digit b ≡ t → (x * 10 + (b - 48) ≤ most left → digits_from left (x * 10 + (b - 48)) f ≡ some y → y ≤ 9999) → y ≤ 9999
+    go true q ih = ih (rw p at (most_step (suc left) x (b - 48) b true l (λ z. omega arith) h (sym q ∙ sym (digit-is b)) refl refl)) (rw q at e)
+    go false q ih = absurd (none-ne-some y (rw q at e))
+
+pub number-le : (f : List ℕ) (y : ℕ) → number f ≡ some y → y ≤ 9999
+number-le [] y e = absurd (none-ne-some y (sym number-empty ∙ e))
+number-le (b ∷ f) y e = go (is_digit b) refl (sym (number-first b f) ∙ e)
+  where
+    go : (t : Bool) → is_digit b ≡ t → cond (is_digit b) (digits_from 3 (b - 48) f) none ≡ some y → y ≤ 9999
+    go true q k = digits_le 3 (b - 48) f y (omega arith) (most-first (b - 48) b true (sym q ∙ sym (digit-is b)) refl refl) (rw q at k)
+    go false q k = absurd (none-ne-some y (rw q at k))

@@ -47,7 +47,7 @@ pub within_none : (g : ℕ → ℕ) (a top : ℕ) → Within g a a top
 unfolding Within
 within_none g a top k h l = absurd (omega arith)
 
-within_more : (g : ℕ → ℕ) (a b top r : ℕ) → Within g a b top → r ≡ g b → Within g a (b + 1) (bit_or top r)
+pub within_more : (g : ℕ → ℕ) (a b top r : ℕ) → Within g a b top → r ≡ g b → Within g a (b + 1) (bit_or top r)
 unfolding Within
 within_more g a b top r w e k h l = go (lt-cases k b)
   where

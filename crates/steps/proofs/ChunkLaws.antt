@@ -87,7 +87,7 @@ module _ {bytes : List ℕ} {s₀ : Spot} {d d' : Desk} {pending pending' out pa
   same-room : length (behind_put out filled part) ≡ length out
   same-room = put-room out part (answers_of d ls) filled n came.fits.filled-fits part-is
 
-  filled_more : filled + n ≤ length (behind_put out filled part)
+  pub filled_more : filled + n ≤ length (behind_put out filled part)
   filled_more = omega (arith, room, rep.short, same-room)
 
   pub comes-more : Comes bytes s₀ (spot d' pending' fed.len (behind_put out filled part) (filled + n) fed.next)

@@ -1,10 +1,12 @@
 -- Chunk after chunk, from the first byte to the end of the input.
 use mathlib.Core.Path.{◌≡◌, refl, sym, ap, ap₂, subst, ◌∙◌}
-use mathlib.Core.Bool.{Bool, true, false, true≢false}
+use mathlib.Core.Bool.{Bool, true, false, not, ◌&&◌, and-eq-true_iff, true≢false}
 use mathlib.Core.List.{List, [], ◌∷◌, ◌++◌, map, append_assoc}
 use mathlib.Core.Logic.{◌⊎◌, inl, inr}
 use Prim.Native.Nat.{ℕ, ◌<◌, ◌≤◌}
 use native.Mathlib.Omega.{arith}
+use borrow.Author.Tests.{ltb-true, ltb-false, lt-ltb}
+use lib.Dec.{ltb}
 use lib.ListN.{length, take, replicate, length-take, drop_of_length-le}
 use lib.Seq.{take_all, take-take}
 use Rattle.bits.proofs.Cases.{bool_cases}
@@ -175,16 +177,16 @@ module _ {d : Desk} {p : List ℕ} {len : ℕ} {h : Watch} {t : Told} where
         }
 
   -- reads that may go on have not come to the end
-  pub read-over : {d₁ : Desk} {p₁ : List ℕ} {len₁ : ℕ} {h₁ : Watch} {t₁ : Told} {well : Bool} → Read d p len h t d₁ p₁ len₁ h₁ t₁ well
-      → Read d p len h t d₁ p₁ len₁ h₁ t₁ false
-  read-over a =
+  pub read-over : {d₁ : Desk} {p₁ : List ℕ} {len₁ : ℕ} {h₁ : Watch} {t₁ : Told} {well : Bool} (b : Bool)
+      → Read d p len h t d₁ p₁ len₁ h₁ t₁ well → Read d p len h t d₁ p₁ len₁ h₁ t₁ (well && b)
+  read-over {d₁} {p₁} {len₁} {h₁} {t₁} {well} b a =
       record {
         bytes = a.bytes;
         heard-is = a.heard-is;
         through =
             record {
-              does = does-less (λ e. absurd (true≢false (sym e))) a.through.does;
-              pending-is = λ e. absurd (true≢false (sym e));
+              does = does-less (λ e. ((and-eq-true_iff well b).0 e).0) a.through.does;
+              pending-is = λ e. a.through.pending-is ((and-eq-true_iff well b).0 e).0;
               pending-room = a.through.pending-room;
               fits = a.through.fits;
             };
@@ -193,33 +195,55 @@ module _ {d : Desk} {p : List ℕ} {len : ℕ} {h : Watch} {t : Told} where
 -- ---- the end of the input
 
 module _ {d : Desk} {p : List ℕ} {len : ℕ} {t : Told} where
-  pub ends-none : len ≡ 0 → Ends d p len t true d t true
+  pub ends-none : (well : Bool) → well && ltb 0 len ≡ false → Ends d p len t well d t well
   unfolding last_line
-  ends-none z =
+  ends-none well e =
       record {
-        does = λ w. rw z (does-none d t true);
+        does =
+            λ w. let z : len ≡ 0 = omega (arith, ltb-false 0 len (ap (λ (b : Bool). b && ltb 0 len) (sym w) ∙ e)) in
+            subst (λ (k : ℕ). Does (last_line (take k p)) d t d t well) (sym z) (does-none d t well);
         desk-still = λ w. refl;
         told-still = λ w. refl;
         still-failed = λ w. w;
       }
 
-  pub ends-line : {d' : Desk} {p' : List ℕ} {len' : ℕ} {t' : Told} {well' : Bool} → 0 < len → len ≤ length p
-      → Through (10 ∷ []) d p len t d' p' len' t' well' → Ends d p len t true d' t' well'
+  pub ends-line : {d' : Desk} {p' : List ℕ} {len' : ℕ} {t' : Told} {well' : Bool} (well : Bool) → well && ltb 0 len ≡ true → len ≤ length p
+      → Through (10 ∷ []) d p len t d' p' len' t' well' → Ends d p len t well d' t' well'
   unfolding cut last_line
-  ends-line {d'} {p'} {len'} {t'} {well'} h l a =
+  ends-line {d'} {p'} {len'} {t'} {well'} well e l a =
+      let w : well ≡ true = ((and-eq-true_iff well (ltb 0 len)).0 e).0 in
       let one : take (length p) (take len p) ∷ [] ≡ last_line (take len p) =
       ap (λ (q : List ℕ). q ∷ []) (take_all (length p) (take len p) (omega (arith, l, length-take len p)))
-      ∙ sym (some (take len p) (omega (arith, h, l, length-take len p))) in
+      ∙ sym (some (take len p) (omega (arith, l, length-take len p, ltb-true 0 len ((and-eq-true_iff well (ltb 0 len)).0 e).1))) in
       record {
         does = λ v. subst (λ (ls : List (List ℕ)). Does ls d t d' t' well') one a.does;
-        desk-still = λ v. absurd (true≢false v);
-        told-still = λ v. absurd (true≢false v);
-        still-failed = λ v. absurd (true≢false v);
+        desk-still = λ v. absurd (true≢false (sym w ∙ v));
+        told-still = λ v. absurd (true≢false (sym w ∙ v));
+        still-failed = λ v. absurd (true≢false (sym w ∙ v));
       }
     where
       some : (q : List ℕ) → 0 < length q → last_line q ≡ q ∷ []
       some [] h = absurd (omega arith)
       some (b ∷ q) h = refl
+
+  -- with the test of what went before
+  pub ends-last : {d' : Desk} {p' : List ℕ} {len' : ℕ} {t' : Told} {well' : Bool} (well failed : Bool) → well ≡ not failed → failed ≡ false → 0 < len
+      → len ≤ length p → Through (10 ∷ []) d p len t d' p' len' t' well' → Ends d p len t well d' t' well'
+  ends-last well failed e f h l a =
+      let w : well ≡ true = e ∙ ap not f in
+      ends-line well ((and-eq-true_iff well (ltb 0 len)).1 (w, lt-ltb 0 len h)) l a
+
+  pub ends-over : (well failed : Bool) → well ≡ not failed → failed ≡ true → Ends d p len t well d t well
+  ends-over well failed e f =
+      let w : well ≡ false = e ∙ ap not f in
+      ends-none well (ap (λ (b : Bool). b && ltb 0 len) w)
+
+  pub ends-empty : (well : Bool) → len ≡ 0 → Ends d p len t well d t well
+  ends-empty well z = ends-none well (rw z (none well))
+    where
+      none : (b : Bool) → b && false ≡ false
+      none true = refl
+      none false = refl
 
   -- where something has failed, nothing more is done
   pub ends-failed : Ends d p len t false d t false

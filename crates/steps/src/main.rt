@@ -141,7 +141,7 @@ fn run(
     Err(Stopped)
 }
 
-// At the end of the input a last line without a newline is answered.
+// At the end of the input a last line without a newline is answered; where something has failed, nothing more is done.
 fn finish(
     stdout: Stdout,
     stderr: Stderr,
@@ -157,19 +157,20 @@ fn finish(
     pending: &mut [u8],
     out: &mut [u8],
     stand: &mut Stand,
+    gone: Result<(), Stopped>,
 ) -> Result<(), Stopped>
     requires { (4096 ≤ length column.old) × (10276 ≤ length out.old)
         × (stand.old.pending ≤ length pending.old) }
     ensures ends { Ends
         (desk (tables clock.old slots.old words.old heads.old log.old
         changes.old sessions.old) scratch.old) pending.old stand.old.pending
-        stand.old.told true
+        stand.old.told (is_ok gone)
         (desk (tables clock.new slots.new words.new heads.new log.new
         changes.new sessions.new) scratch.new) stand.new.told (is_ok result) }
     ensures heard_value { stand.new.heard ≡ stand.old.heard }
 {
-    if stand.pending == 0 {
-        return Ok(());
+    if gone.is_err() || stand.pending == 0 {
+        return gone;
     }
     whole(
         stdout, stderr, clock, slots, words, heads, log, changes, sessions, scratch, column,
@@ -210,16 +211,11 @@ fn program(
         stdin, stdout, stderr, clock, slots, words, heads, log, changes, sessions, scratch, column,
         pending, out, input, &mut stand,
     );
-    match gone {
-        Ok(()) => {
-            let done = finish(
-                stdout, stderr, clock, slots, words, heads, log, changes, sessions, scratch,
-                column, pending, out, &mut stand,
-            );
-            (stand, done)
-        }
-        Err(stopped) => (stand, Err(stopped)),
-    }
+    let done = finish(
+        stdout, stderr, clock, slots, words, heads, log, changes, sessions, scratch, column,
+        pending, out, &mut stand, gone,
+    );
+    (stand, done)
 }
 
 // 65,536 zeros: what a read fills, and what answers are gathered in before they are written.

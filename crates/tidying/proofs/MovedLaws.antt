@@ -25,7 +25,7 @@ use Rattle.outcomes.proofs.StoreLaws.{length-changes, changes-before, changes-ap
 
 -- ---- no row, one row, more rows
 
-put-none : (from to v : ℕ) (l : List ℕ) → RowsPut [] from to v l l from
+pub put-none : (from to v : ℕ) (l : List ℕ) → RowsPut [] from to v l l from
 unfolding put_changes
 put-none from to v l = record { stored = refl; place = sym (add-zero from) }
 
@@ -47,7 +47,7 @@ less-kept l from to v cs h k =
     (λ r. ap (λ (m : ℕ). record { row = r; flips = clear_bit m v })
     (set-kept (put_changes l from cs) l from (λ q m. changes-before l from cs k q m) 0 to r h))
 
-put-more : (a b : List ℕ) (from to v : ℕ) (l l₁ l₂ : List ℕ) (p q : ℕ) → to ≤ from → p ≤ 2048 → RowsPut a from to v l l₁ p
+pub put-more : (a b : List ℕ) (from to v : ℕ) (l l₁ l₂ : List ℕ) (p q : ℕ) → to ≤ from → p ≤ 2048 → RowsPut a from to v l l₁ p
     → RowsPut b p to v l₁ l₂ q
     → RowsPut (a ++ b) from to v l l₂ q
 put-more a b from to v l l₁ l₂ p q h k f g =

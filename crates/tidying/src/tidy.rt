@@ -121,7 +121,7 @@ fn write_vector(
     let base = history::base_of(slots, heads, log, v, s);
     let mask = history::flips(changes, base.from, tables::end_at(log, s), v);
     let mut own = [0u64; 32];
-    own.copy_from_slice(history::slot_words(words, base.slot));
+    vectors::copy(&mut own, history::slot_words(words, base.slot));
     let a = 32 * k as usize;
     let e = a + 32;
     fill(&mut words[a..e], &own, &mask);

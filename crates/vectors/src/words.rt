@@ -74,12 +74,14 @@ pub fn merge(dst: &mut [u64], a: &[u64], mask: &[u64])
     }
 }
 
-// The words of `src`.
+// The words of `src`. A loop, which becomes `memcpy`: `copy_from_slice` has the archive ask the C library for `memmove` as well.
 pub fn copy(dst: &mut [u64], src: &[u64])
     requires { length src.now ≡ length dst.old }
     ensures { dst.new ≡ src.now }
 {
-    dst.copy_from_slice(src);
+    for (i, d) in dst.iter_mut().enumerate() {
+        *d = src[i];
+    }
 }
 
 // No row is set.

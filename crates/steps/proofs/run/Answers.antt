@@ -1,5 +1,6 @@
 -- `run` meets its contract: at the loop's head, the bytes that the reads gave are gone through.
 use mathlib.Core.Path.{refl, ◌∙◌}
+use mathlib.Core.Bool.{false}
 use mathlib.Core.List.{[]}
 use native.Mathlib.Omega.{arith}
 use Rattle.std.proofs.lemmas.Result.{err_from_is_err_and}
@@ -33,4 +34,4 @@ loop-preserved c =
     read_more c.loop.invariant refl record { bytes = _; heard-is = w.heard_value ∙ c.in_ok-n.ensures.watch-is; through = w.through }
 
 pub returns : goal.returns
-returns c = read-over c.loop.invariant
+returns c = read-over false c.loop.invariant
