@@ -87,10 +87,17 @@ pub fn write(stdout: Stdout, stderr: Stderr, bytes: &[u8], told: &mut Told) -> R
     ))
 }
 
-// Reads, until one gives bytes or the end of the input, or fails; the watch sees the bytes that it gave.
-fn get(mut stdin: Stdin, input: &mut [u8], watch: &mut Watch) -> io::Result<usize>
+// A read, made again until one gives bytes or the end of the input, or fails: how many bytes it gave, 0 at the end of the input. The watch
+// sees them.
+pub fn read(
+    mut stdin: Stdin,
+    stderr: Stderr,
+    input: &mut [u8],
+    watch: &mut Watch,
+) -> Result<usize, Stopped>
     ensures { Got input.new watch.old (result_unwrap_or result 0) watch.new }
 {
+    let mut last = io::Error::from(ErrorKind::Interrupted);
     for _ in 0..TURNS {
         match stdin.read(input) {
             Ok(n) => {
@@ -98,23 +105,12 @@ fn get(mut stdin: Stdin, input: &mut [u8], watch: &mut Watch) -> io::Result<usiz
                 return Ok(n);
             }
             Err(why) => {
+                last = why;
                 if !again(&why) {
-                    return Err(why);
+                    break;
                 }
             }
         }
     }
-    Err(io::Error::from(ErrorKind::Interrupted))
-}
-
-// A read: how many bytes it gave, 0 at the end of the input.
-pub fn read(
-    stdin: Stdin,
-    stderr: Stderr,
-    input: &mut [u8],
-    watch: &mut Watch,
-) -> Result<usize, Stopped>
-    ensures { Got input.new watch.old (result_unwrap_or result 0) watch.new }
-{
-    get(stdin, input, watch).map_err(|why| tell(stderr, "the input could not be read", why))
+    Err(tell(stderr, "the input could not be read", last))
 }
