@@ -223,8 +223,11 @@ digits_le (suc left) x (b ∷ f) y l h e = go (is_digit b) refl (digits_le left 
     p : suc left - 1 ≡ left
     p = omega arith
 
-    go : (t : Bool) → is_digit b ≡ t → (x * 10 + (b - 48) ≤ most left → digits_from left (x * 10 + (b - 48)) f ≡ some y → y ≤ 9999) → y ≤ 9999
-    go true q ih = ih (rw p at (most_step (suc left) x (b - 48) b true l (λ z. omega arith) h (sym q ∙ sym (digit-is b)) refl refl)) (rw q at e)
+    go : (t : Bool) → is_digit b ≡ t
+        → (x * 10 + (b - 48) ≤ most left → digits_from left (x * 10 + (b - 48)) f ≡ some y → y ≤ 9999) → y ≤ 9999
+    go true q ih =
+        let d : true ≡ is_ascii_digit b = sym q ∙ sym (digit-is b) in
+        ih (rw p at (most_step (suc left) x (b - 48) b true l (λ z. omega arith) h d refl refl)) (rw q at e)
     go false q ih = absurd (none-ne-some y (rw q at e))
 
 pub number-le : (f : List ℕ) (y : ℕ) → number f ≡ some y → y ≤ 9999

@@ -31,8 +31,8 @@ use Rattle.lent.proofs.PlaceTheorems.{all_freed}
 use Rattle.outcomes.specs.Said.{Said, numbers}
 use Rattle.outcomes.specs.Outcome.{Outcome, outcome, refusal_at, refusal_of_create, unless}
 use Rattle.outcomes.specs.Stores.{clock_cell, slot_cell, head_cell, word_stores}
-use Rattle.outcomes.specs.Calls.{own, reseated, beginning, column_of, created_tables, create_of, begin_of, read_of, update_of, delete_of, insert_of}
-use Rattle.outcomes.specs.Calls.{commit_of, tidy_of, abort_of}
+use Rattle.outcomes.specs.Calls.{own, reseated, beginning, column_of, created_tables, create_of, begin_of, read_of, update_of}
+use Rattle.outcomes.specs.Calls.{delete_of, insert_of, commit_of, tidy_of, abort_of}
 use Rattle.outcomes.specs.Query.{flips_seen, asked, query_of}
 use Rattle.outcomes.specs.Span.{span_of, listed_span}
 use Rattle.outcomes.proofs.Serving.{accepted}

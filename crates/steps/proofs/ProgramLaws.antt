@@ -9,6 +9,7 @@ use borrow.Author.Tests.{ltb-true, ltb-false, lt-ltb}
 use lib.Dec.{ltb}
 use lib.ListN.{length, take, replicate, length-take, drop_of_length-le}
 use lib.Seq.{take_all, take-take}
+use Rattle.std.proofs.lemmas.Bool.{and_left, and_right}
 use Rattle.bits.proofs.Cases.{bool_cases}
 use Rattle.tables.specs.declared.session.Session.{Session}
 use Rattle.tables.specs.Cells.{tables}
@@ -226,34 +227,23 @@ module _ {d : Desk} {p : List ℕ} {len : ℕ} {t : Told} where
       some [] h = absurd (omega arith)
       some (b ∷ q) h = refl
 
-  -- with the test of what went before
-  pub ends-last : {d' : Desk} {p' : List ℕ} {len' : ℕ} {t' : Told} {well' : Bool} (well failed : Bool) → well ≡ not failed → failed ≡ false → 0 < len
-      → len ≤ length p → Through (10 ∷ []) d p len t d' p' len' t' well' → Ends d p len t well d' t' well'
+  -- the same, by the tests of `finish`: nothing failed and a line is pending; something failed; no byte is pending
+  pub ends-last : {d' : Desk} {p' : List ℕ} {len' : ℕ} {t' : Told} {well' : Bool} (well failed : Bool) → well ≡ not failed
+      → failed ≡ false → 0 < len → len ≤ length p
+      → Through (10 ∷ []) d p len t d' p' len' t' well' → Ends d p len t well d' t' well'
   ends-last well failed e f h l a =
       let w : well ≡ true = e ∙ ap not f in
       ends-line well ((and-eq-true_iff well (ltb 0 len)).1 (w, lt-ltb 0 len h)) l a
 
   pub ends-over : (well failed : Bool) → well ≡ not failed → failed ≡ true → Ends d p len t well d t well
-  ends-over well failed e f =
-      let w : well ≡ false = e ∙ ap not f in
-      ends-none well (ap (λ (b : Bool). b && ltb 0 len) w)
+  ends-over well failed e f = ends-none well (and_left well (ltb 0 len) (e ∙ ap not f))
 
   pub ends-empty : (well : Bool) → len ≡ 0 → Ends d p len t well d t well
-  ends-empty well z = ends-none well (rw z (none well))
-    where
-      none : (b : Bool) → b && false ≡ false
-      none true = refl
-      none false = refl
+  ends-empty well z = ends-none well (and_right well (ltb 0 len) (ap (ltb 0) z))
 
   -- where something has failed, nothing more is done
   pub ends-failed : Ends d p len t false d t false
-  ends-failed =
-      record {
-        does = λ v. absurd (true≢false (sym v));
-        desk-still = λ w. refl;
-        told-still = λ w. refl;
-        still-failed = λ w. refl;
-      }
+  ends-failed = ends-none false refl
 
 -- ---- the program
 
